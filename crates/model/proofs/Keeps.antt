@@ -1,0 +1,147 @@
+-- Every call keeps its subject's set valid: count, elements, order, and the prefixes of the own label.
+use mathlib.Core.Path.{_≡_, refl, subst}
+use mathlib.Core.Logic.{_⊎_, inl, inr}
+use mathlib.Core.Bool.{not, cond}
+use mathlib.Core.Option.{Option, none, some}
+use mathlib.Core.List.{List, [], _∷_, List·Memᴰ·not-nil}
+use Prim.Native.Nat.{ℕ, _≤_, _<_}
+use native.Mathlib.Omega.{arith}
+use lib.ListN.{length}
+use lib.Dec.{T}
+use mir.Facts.{leb-no}
+use Rattle.model.specs.Label.{labels, isLabel, dominates}
+use Rattle.model.specs.Path.{Step, isPrefix, parent, endsIn, validPath, stepsOf, key}
+use Rattle.model.specs.Value.{Content, allowed, storable, bringable}
+use Rattle.model.specs.Element.{Element, validElement, contains, remove}
+use Rattle.model.specs.Partition.{readPartition, wellFormed}
+use Rattle.model.specs.Store.{storeSize, partition}
+use Rattle.model.specs.Model.{held, raw, elements, openCell, Model, openModel, ownSet, live}
+use Rattle.model.specs.View.{visible, inView}
+use Rattle.model.specs.Call.{Op, view, insert, update, delete, Call, callSubject, goodPath, opRows, table, refusal, done, refused, added, effect, outcomeBy, outcome}
+use Rattle.model.proofs.Bools.{and-l, and-r, both, decide, cond-yes, cond-no, not-not}
+use Rattle.model.proofs.Members.{_∈_, all-in, any-in, gather-in}
+use Rattle.model.proofs.Dominance.{dominates-lower, dominates-antisym}
+use Rattle.model.proofs.Paths.{prefix-trans, prefix-parent, prefix-below}
+use Rattle.model.proofs.Partitions.{ValidSet, well-formed, read-valid}
+use Rattle.model.proofs.Sets.{closed-facts, remove-valid, remove-fewer, remove-lacks, remove-near, put-valid}
+use Rattle.model.proofs.Rows.{Passes}
+use Rattle.model.proofs.Restriction.{live-own, Admitted, admitted}
+
+-- each set of the model is valid for its label
+abbrev pub ValidSets : Model → Type 0
+ValidSets m = (n : ℕ) → ValidSet key n (ownSet n m)
+
+pub empty-valid : (n : ℕ) → ValidSet key n []
+unfolding Rattle.model.specs.Element.closed
+empty-valid n = record { few = omega arith; valid = tt; ascends = tt; closes = tt }
+
+-- so of a model opened on a store
+pub open-valid : (s : List ℕ) → ValidSets (openModel s)
+unfolding openModel ownSet openCell elements
+open-valid s n =
+    decide (wellFormed n (partition n s))
+    (λ (t : T (wellFormed n (partition n s))).
+    rw (cond-yes (wellFormed n (partition n s)) (held (readPartition (partition n s))) (raw (partition n s)) t)
+    (read-valid key n (partition n s) (well-formed key n (partition n s) t)))
+    (λ (t : T (not (wellFormed n (partition n s)))).
+    rw (cond-no (wellFormed n (partition n s)) (held (readPartition (partition n s))) (raw (partition n s)) t) (empty-valid n))
+
+-- ---- what a subject sees of his own label
+
+-- a visible element stands in the set of a label that the subject dominates
+pub visible-in : (s : ℕ) (m : Model) {e : Element} → e ∈ visible s m → (n : ℕ) × T (dominates s n) × (e ∈ ownSet n m)
+unfolding visible
+visible-in s m {e} k =
+    let g : (n : ℕ) × (n ∈ labels) × (e ∈ cond (dominates s n) (ownSet n m) []) = gather-in (λ n. cond (dominates s n) (ownSet n m) []) labels k in
+    let n : ℕ = g .0 in
+    decide (dominates s n)
+    (λ (t : T (dominates s n)). (n, t, rw (cond-yes (dominates s n) (ownSet n m) [] t) at (g .2)))
+    (λ (t : T (not (dominates s n))). absurd (List·Memᴰ·not-nil {a = e} (rw (cond-no (dominates s n) (ownSet n m) [] t) at (g .2))))
+
+-- a prefix in the subject's label of a path in his view stands in his own set
+pub in-view-own : (s : ℕ) (m : Model) (p q : List Step) → ValidSets m → T (inView s m p) → T (isPrefix q p) → T (endsIn s q)
+    → T (contains (ownSet s m) q)
+unfolding inView validElement validPath
+in-view-own s m [] [] sets v b t = absurd t
+in-view-own s m [] (a ∷ q) sets v b t = absurd b
+in-view-own s m (a ∷ p) q sets v b t =
+    let r : (e : Element) × (e ∈ visible s m) × T (isPrefix (a ∷ p) (e .path)) = any-in (λ e. isPrefix (a ∷ p) (e .path)) (visible s m) v in
+    let e : Element = r .0 in
+    let g : (n : ℕ) × T (dominates s n) × (e ∈ ownSet n m) = visible-in s m (r .1) in
+    let n : ℕ = g .0 in
+    let ok : T (validElement n e) = all-in (validElement n) (ownSet n m) (sets n .valid) (g .2) in
+    let bq : T (isPrefix q (e .path)) = prefix-trans q (a ∷ p) (e .path) b (r .2) in
+    let up : T (dominates n s) =
+    prefix-below n s q (e .path) (dominates-lower s n (g .1)) (search (and-l, and-r)) (search (and-l, and-r)) bq t in
+    own n (dominates-antisym n s up (g .1)) e (g .2) bq
+  where
+    own : (n : ℕ) → n ≡ s → (e : Element) → e ∈ ownSet n m → T (isPrefix q (e .path)) → T (contains (ownSet s m) q)
+    own n eq e k bq = closed-facts s (ownSet s m) (sets s .closes) e (subst (λ j. e ∈ ownSet j m) eq k) q bq t
+
+-- ---- each operation
+
+element-valid : (s : ℕ) (p : List ℕ) (c : Content) → T (goodPath p) → T (bringable c) → T (endsIn s (stepsOf p))
+    → T (validElement s (record { path = stepsOf p; content = c }))
+unfolding validElement goodPath bringable storable
+element-valid s p c g t l =
+    let v : T (validPath (stepsOf p)) = search (and-l, and-r) in
+    let k : T (allowed (c .kind) (c .value)) = t in
+    search both
+
+module _ (s : ℕ) (m : Model) (sets : ValidSets m) where
+  insert-valid : (p : List Step) (c : Content) → T (validElement s (record { path = p; content = c })) → T (inView s m (parent p))
+      → T (not (contains (ownSet s m) p)) → length (ownSet s m) < 32 → ValidSet key s (added p c (ownSet s m))
+  unfolding added
+  insert-valid p c v iv nl room =
+      put-valid (record { path = p; content = c }) (ownSet s m) nl s (sets s) v room (λ q b t. near q (prefix-parent q p b) t)
+    where
+      near : (q : List Step) → (q ≡ p) ⊎ T (isPrefix q (parent p)) → T (endsIn s q) → (q ≡ p) ⊎ T (contains (ownSet s m) q)
+      near q (inl h) t = inl h
+      near q (inr h) t = inr (in-view-own s m (parent p) q sets iv h t)
+
+  update-valid : (p : List Step) (c : Content) → T (validElement s (record { path = p; content = c })) → T (contains (ownSet s m) p)
+      → ValidSet key s (added p c (remove p (ownSet s m)))
+  unfolding added
+  update-valid p c v on =
+      let few : length (remove p (ownSet s m)) < length (ownSet s m) = remove-fewer s p (ownSet s m) on in
+      let small : length (ownSet s m) ≤ 32 = sets s .few in
+      put-valid (record { path = p; content = c }) (remove p (ownSet s m)) (remove-lacks s p (ownSet s m)) s
+      (remove-valid s p (ownSet s m) (sets s)) v (omega arith)
+      (remove-near s p (ownSet s m) (closed-facts s (ownSet s m) (sets s .closes)) on)
+
+  becomes : {new es : List Element} → ValidSet key s new → some new ≡ some es → ValidSet key s es
+  becomes {new} {es} f e = let q : new ≡ es = cc in rw q at f
+
+  pub op-keeps : (o : Op) (es : List Element) → Passes (opRows o s m) → effect o s m .change ≡ some es → ValidSet key s es
+  unfolding opRows effect done
+  op-keeps (view p room) es h e = let z : _≡_ {A = ℕ} 0 1 = cc in absurd (omega arith)
+  op-keeps (insert p c) es h e =
+      let own : T (endsIn s (stepsOf p)) = not-not (endsIn s (stepsOf p)) (h .1 .1 .0) in
+      let lacks : T (not (contains (ownSet s m) (stepsOf p))) = rw (live-own s m (stepsOf p) own) at (h .1 .1 .1 .1 .0) in
+      let room : length (ownSet s m) < 32 = omega (arith, leb-no) in
+      becomes
+      (insert-valid (stepsOf p) c (element-valid s p c (not-not (goodPath p) (h .0)) (not-not (bringable c) (h .1 .0)) own)
+      (not-not (inView s m (parent (stepsOf p))) (h .1 .1 .1 .0)) lacks room) e
+  op-keeps (update p c) es h e =
+      let own : T (endsIn s (stepsOf p)) = not-not (endsIn s (stepsOf p)) (h .1 .1 .0) in
+      let has : T (contains (ownSet s m) (stepsOf p)) = rw (live-own s m (stepsOf p) own) at (not-not (live m (stepsOf p)) (h .1 .1 .1 .0)) in
+      becomes (update-valid (stepsOf p) c (element-valid s p c (not-not (goodPath p) (h .0)) (not-not (bringable c) (h .1 .0)) own) has) e
+  op-keeps (delete p) es h e = becomes (remove-valid s (stepsOf p) (ownSet s m) (sets s)) e
+
+-- ---- a call
+
+-- what holds where a call changes its subject's set to es
+pub record Kept (n : ℕ) (m : Model) (es : List Element) : Type 0 where
+  pub label : T (isLabel n)
+  pub size : m .size ≡ storeSize
+  pub valid : ValidSet key n es
+
+pub call-keeps : (c : Call) (m : Model) (es : List Element) → ValidSets m → outcome c m .change ≡ some es → Kept (callSubject c) m es
+unfolding outcome refused
+call-keeps c m es sets e = go (refusal (table c m)) refl e
+  where
+    go : (r : Option ℕ) → refusal (table c m) ≡ r → outcomeBy r c m .change ≡ some es → Kept (callSubject c) m es
+    go none q h =
+        let a : Admitted c m = admitted c m q in
+        record { label = a .label; size = a .size; valid = op-keeps (callSubject c) m sets (c .op) es (a .rows) h }
+    go (some k) q h = let z : _≡_ {A = ℕ} 0 1 = cc in absurd (omega arith)

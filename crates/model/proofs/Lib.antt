@@ -1,0 +1,22 @@
+-- The laws of the definitions, a file a subject.
+pub mod Bools
+pub mod Members
+pub mod Lists
+pub mod Dominance
+pub mod Order
+pub mod Paths
+pub mod Slots
+pub mod Partitions
+pub mod Sets
+pub mod Stores
+pub mod Rows
+pub mod Restriction
+pub mod Keeps
+pub mod Noninterference
+pub mod Refusals
+pub mod Marks
+pub mod Empty
+pub mod Cases
+pub mod Fields
+pub mod Decimal
+pub mod Script

@@ -1,0 +1,91 @@
+-- What tests on lists say of the members.
+use mathlib.Core.Path.{_≡_, refl, ap}
+use mathlib.Core.Logic.{_⊎_, inl, inr}
+use mathlib.Core.Bool.{Bool, not}
+use mathlib.Core.List.{List, [], _∷_, map, List·Memᴰ, List·Memᴰ·head, List·Memᴰ·tail, List·Memᴰ·cases-cons, List·Memᴰ·not-nil, List·Memᴰ·append-cases}
+use lib.Dec.{T}
+use mir.Facts.{or-yes, T-not}
+use Rattle.model.specs.Lists.{all, any, keep, gather}
+use Rattle.model.proofs.Bools.{and-l, and-r, both, or-l, or-r, decide, cond-yes, cond-no}
+
+infix 50 _∈_
+abbrev pub _∈_ : {A : Type 0} → A → List A → Type 0
+x ∈ l = List·Memᴰ x l
+
+module _ {A : Type 0} where
+  pub all-in : (p : A → Bool) (l : List A) → T (all p l) → {x : A} → x ∈ l → T (p x)
+  all-in p [] t m = absurd (List·Memᴰ·not-nil m)
+  all-in p (y ∷ l) t {x} m = go (List·Memᴰ·cases-cons m) (λ (k : x ∈ l). all-in p l (and-r (p y) (all p l) t) k)
+    where
+      go : (x ≡ y) ⊎ (x ∈ l) → (x ∈ l → T (p x)) → T (p x)
+      go (inl e) f = rw e (and-l (p y) (all p l) t)
+      go (inr k) f = f k
+
+  pub in-all : (p : A → Bool) (l : List A) → ((x : A) → x ∈ l → T (p x)) → T (all p l)
+  in-all p [] f = tt
+  in-all p (y ∷ l) f = both (p y) (all p l) (f y (List·Memᴰ·head refl)) (in-all p l (λ x m. f x (List·Memᴰ·tail m)))
+
+  pub any-in : (p : A → Bool) (l : List A) → T (any p l) → (x : A) × (x ∈ l) × T (p x)
+  any-in p [] t = absurd t
+  any-in p (y ∷ l) t = go (or-yes (p y) (any p l) t) (λ k. any-in p l k)
+    where
+      go : T (p y) ⊎ T (any p l) → (T (any p l) → (x : A) × (x ∈ l) × T (p x)) → (x : A) × (x ∈ y ∷ l) × T (p x)
+      go (inl h) f = (y, List·Memᴰ·head refl, h)
+      go (inr k) f = let r = f k in (r .0, List·Memᴰ·tail (r .1), r .2)
+
+  pub in-any : (p : A → Bool) (l : List A) {x : A} → x ∈ l → T (p x) → T (any p l)
+  in-any p [] m t = absurd (List·Memᴰ·not-nil m)
+  in-any p (y ∷ l) {x} m t = go (List·Memᴰ·cases-cons m) (λ (k : x ∈ l). in-any p l k t)
+    where
+      go : (x ≡ y) ⊎ (x ∈ l) → (x ∈ l → T (any p l)) → T (any p (y ∷ l))
+      go (inl e) f = or-l (p y) (any p l) (rw e at t)
+      go (inr k) f = or-r (p y) (any p l) (f k)
+
+  pub not-any : (p : A → Bool) (l : List A) → T (not (any p l)) → {x : A} → x ∈ l → T (not (p x))
+  not-any p l t {x} m = decide (p x) (λ (h : T (p x)). absurd (T-not (any p l) (in-any p l m h) t)) (λ h. h)
+
+  pub keep-in : (p : A → Bool) (l : List A) {x : A} → x ∈ keep p l → (x ∈ l) × T (p x)
+  keep-in p [] m = absurd (List·Memᴰ·not-nil m)
+  keep-in p (y ∷ l) {x} m =
+      decide (p y)
+      (λ (t : T (p y)). there t (List·Memᴰ·cases-cons (rw (cond-yes (p y) (y ∷ keep p l) (keep p l) t) at m)) (λ (k : x ∈ keep p l). keep-in p l k))
+      (λ (t : T (not (p y))). let r = keep-in p l {x = x} (rw (cond-no (p y) (y ∷ keep p l) (keep p l) t) at m) in (List·Memᴰ·tail (r .0), r .1))
+    where
+      there : T (p y) → (x ≡ y) ⊎ (x ∈ keep p l) → (x ∈ keep p l → (x ∈ l) × T (p x)) → (x ∈ y ∷ l) × T (p x)
+      there t (inl e) f = (List·Memᴰ·head e, rw e t)
+      there t (inr k) f = (List·Memᴰ·tail (f k .0), f k .1)
+
+  pub in-keep : (p : A → Bool) (l : List A) {x : A} → x ∈ l → T (p x) → x ∈ keep p l
+  in-keep p [] m t = absurd (List·Memᴰ·not-nil m)
+  in-keep p (y ∷ l) {x} m t = go (List·Memᴰ·cases-cons m) (λ (k : x ∈ l). in-keep p l k t)
+    where
+      go : (x ≡ y) ⊎ (x ∈ l) → (x ∈ l → x ∈ keep p l) → x ∈ keep p (y ∷ l)
+      go (inl e) f = rw (cond-yes (p y) (y ∷ keep p l) (keep p l) (rw e at t)) (List·Memᴰ·head e)
+      go (inr k) f =
+          decide (p y)
+          (λ (h : T (p y)). rw (cond-yes (p y) (y ∷ keep p l) (keep p l) h) (List·Memᴰ·tail (f k)))
+          (λ (h : T (not (p y))). rw (cond-no (p y) (y ∷ keep p l) (keep p l) h) (f k))
+
+  pub gather-in : {B : Type 0} (f : A → List B) (l : List A) {y : B} → y ∈ gather f l → (x : A) × (x ∈ l) × (y ∈ f x)
+  gather-in f [] m = absurd (List·Memᴰ·not-nil m)
+  gather-in {B} f (x ∷ l) {y} m = go (List·Memᴰ·append-cases (f x) m) (λ (k : y ∈ gather f l). gather-in f l k)
+    where
+      go : (y ∈ f x) ⊎ (y ∈ gather f l) → (y ∈ gather f l → (z : A) × (z ∈ l) × (y ∈ f z)) → (z : A) × (z ∈ x ∷ l) × (y ∈ f z)
+      go (inl h) g = (x, List·Memᴰ·head refl, h)
+      go (inr k) g = let r = g k in (r .0, List·Memᴰ·tail (r .1), r .2)
+
+  pub map-in : {B : Type 0} (f : A → B) (l : List A) {y : B} → y ∈ map f l → (x : A) × (x ∈ l) × (y ≡ f x)
+  map-in f [] m = absurd (List·Memᴰ·not-nil m)
+  map-in {B} f (x ∷ l) {y} m = go (List·Memᴰ·cases-cons m) (λ (k : y ∈ map f l). map-in f l k)
+    where
+      go : (y ≡ f x) ⊎ (y ∈ map f l) → (y ∈ map f l → (z : A) × (z ∈ l) × (y ≡ f z)) → (z : A) × (z ∈ x ∷ l) × (y ≡ f z)
+      go (inl h) g = (x, List·Memᴰ·head refl, h)
+      go (inr k) g = let r = g k in (r .0, List·Memᴰ·tail (r .1), r .2)
+
+  pub in-map : {B : Type 0} (f : A → B) (l : List A) {x : A} → x ∈ l → f x ∈ map f l
+  in-map f [] m = absurd (List·Memᴰ·not-nil m)
+  in-map f (y ∷ l) {x} m = go (List·Memᴰ·cases-cons m) (λ (k : x ∈ l). in-map f l k)
+    where
+      go : (x ≡ y) ⊎ (x ∈ l) → (x ∈ l → f x ∈ map f l) → f x ∈ map f (y ∷ l)
+      go (inl e) g = List·Memᴰ·head (ap f e)
+      go (inr k) g = List·Memᴰ·tail (g k)

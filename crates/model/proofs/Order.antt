@@ -1,0 +1,227 @@
+-- Ranks and ascending lists: the order of ranks is a strict total order; a set stays ascending as members come and go, and an
+-- ascending list is determined by its members.
+use mathlib.Core.Path.{_≡_, refl, sym, ap, ap₂, _∙_, subst}
+use mathlib.Core.Logic.{_⊎_, inl, inr}
+use mathlib.Core.Bool.{Bool, true, false, not, cond, _&&_}
+use mathlib.Core.List.{List, [], _∷_, List·Memᴰ·head, List·Memᴰ·tail, List·Memᴰ·cases-cons, List·Memᴰ·not-nil}
+use Prim.Native.Nat.{ℕ, suc, _≤_, _<_}
+use native.Mathlib.Omega.{arith}
+use lib.ListN.{length}
+use lib.Dec.{T, eqb, ltb}
+use mir.Facts.{or-yes, or-no, eqb-yes, yes-eqb, ltb-yes, ltb-no, yes-ltb}
+use Rattle.model.specs.Lists.{all, keep}
+use Rattle.model.specs.Sets.{precedes, ascending, put, sort}
+use Rattle.model.proofs.Bools.{and-l, and-r, both, or-l, or-r, decide, cond-yes, cond-no}
+use Rattle.model.proofs.Members.{_∈_, all-in, in-all, keep-in}
+
+pub precedes-trans : (x y z : List ℕ) → T (precedes x y) → T (precedes y z) → T (precedes x z)
+precedes-trans [] [] z s t = absurd s
+precedes-trans [] (b ∷ y) [] s t = absurd t
+precedes-trans [] (b ∷ y) (c ∷ z) s t = tt
+precedes-trans (a ∷ x) [] z s t = absurd s
+precedes-trans (a ∷ x) (b ∷ y) [] s t = absurd t
+precedes-trans (a ∷ x) (b ∷ y) (c ∷ z) s t =
+    go (or-yes (ltb a b) (eqb a b && precedes x y) s) (or-yes (ltb b c) (eqb b c && precedes y z) t) (λ h k. precedes-trans x y z h k)
+  where
+    less : a < c → T (precedes (a ∷ x) (c ∷ z))
+    less h = or-l (ltb a c) (eqb a c && precedes x z) (yes-ltb h)
+
+    go : T (ltb a b) ⊎ T (eqb a b && precedes x y) → T (ltb b c) ⊎ T (eqb b c && precedes y z)
+        → (T (precedes x y) → T (precedes y z) → T (precedes x z)) → T (precedes (a ∷ x) (c ∷ z))
+    go (inl h) (inl k) f = let h′ : a < b = ltb-yes h in let k′ : b < c = ltb-yes k in less (omega arith)
+    go (inl h) (inr k) f = let h′ : a < b = ltb-yes h in let k′ : b ≡ c = eqb-yes (and-l (eqb b c) (precedes y z) k) in less (omega arith)
+    go (inr h) (inl k) f = let h′ : a ≡ b = eqb-yes (and-l (eqb a b) (precedes x y) h) in let k′ : b < c = ltb-yes k in less (omega arith)
+    go (inr h) (inr k) f =
+        let h′ : a ≡ b = eqb-yes (and-l (eqb a b) (precedes x y) h) in
+        let k′ : b ≡ c = eqb-yes (and-l (eqb b c) (precedes y z) k) in
+        or-r (ltb a c) (eqb a c && precedes x z)
+        (both (eqb a c) (precedes x z) (yes-eqb (h′ ∙ k′)) (f (and-r (eqb a b) (precedes x y) h) (and-r (eqb b c) (precedes y z) k)))
+
+pub precedes-total : (x y : List ℕ) → T (not (precedes x y)) → T (not (precedes y x)) → x ≡ y
+precedes-total [] [] s t = refl
+precedes-total [] (b ∷ y) s t = absurd s
+precedes-total (a ∷ x) [] s t = absurd t
+precedes-total (a ∷ x) (b ∷ y) s t =
+    let s′ = or-no (ltb a b) (eqb a b && precedes x y) s in
+    let t′ = or-no (ltb b a) (eqb b a && precedes y x) t in
+    let u : b ≤ a = ltb-no (s′ .0) in
+    let v : a ≤ b = ltb-no (t′ .0) in
+    let e : a ≡ b = omega arith in
+    let f : b ≡ a = omega arith in
+    ap₂ (λ (c : ℕ) (z : List ℕ). c ∷ z) e (precedes-total x y (rest (eqb a b) (precedes x y) (yes-eqb e) (s′ .1)) (rest (eqb b a) (precedes y x) (yes-eqb f) (t′ .1)))
+  where
+    rest : (p q : Bool) → T p → T (not (p && q)) → T (not q)
+    rest true q h k = k
+    rest false q h k = absurd h
+
+pub precedes-irrefl : (x : List ℕ) → T (precedes x x) → ⊥
+precedes-irrefl [] t = t
+precedes-irrefl (a ∷ x) t = go (or-yes (ltb a a) (eqb a a && precedes x x) t) (λ k. precedes-irrefl x k)
+  where
+    go : T (ltb a a) ⊎ T (eqb a a && precedes x x) → (T (precedes x x) → ⊥) → ⊥
+    go (inl h) f = let k : a < a = ltb-yes h in omega arith
+    go (inr h) f = f (and-r (eqb a a) (precedes x x) h)
+
+module _ {A : Type 0} (rank : A → List ℕ) where
+  abbrev pub isBefore : A → A → Bool
+  isBefore x y = precedes (rank x) (rank y)
+
+  abbrev pub ahead : A → List A → Bool
+  ahead x l = all (isBefore x) l
+
+  abbrev pub sorted : List A → Bool
+  sorted [] = true
+  sorted (x ∷ l) = ahead x l && sorted l
+
+  pub ahead-trans : (x y : A) (l : List A) → T (isBefore x y) → T (ahead y l) → T (ahead x l)
+  ahead-trans x y l t s = in-all (isBefore x) l (λ z m. precedes-trans (rank x) (rank y) (rank z) t (all-in (isBefore y) l s m))
+
+  pub ascending-sorted : (l : List A) → T (ascending rank l) → T (sorted l)
+  ascending-sorted [] t = tt
+  ascending-sorted (x ∷ []) t = tt
+  ascending-sorted (x ∷ y ∷ l) t =
+      let h : T (isBefore x y) = and-l (isBefore x y) (ascending rank (y ∷ l)) t in
+      let r : T (sorted (y ∷ l)) = ascending-sorted (y ∷ l) (and-r (isBefore x y) (ascending rank (y ∷ l)) t) in
+      both (ahead x (y ∷ l)) (sorted (y ∷ l))
+      (both (isBefore x y) (ahead x l) h (ahead-trans x y l h (and-l (ahead y l) (sorted l) r))) r
+
+  pub sorted-ascending : (l : List A) → T (sorted l) → T (ascending rank l)
+  sorted-ascending [] t = tt
+  sorted-ascending (x ∷ []) t = tt
+  sorted-ascending (x ∷ y ∷ l) t =
+      both (isBefore x y) (ascending rank (y ∷ l))
+      (and-l (isBefore x y) (ahead x l) (and-l (ahead x (y ∷ l)) (sorted (y ∷ l)) t))
+      (sorted-ascending (y ∷ l) (and-r (ahead x (y ∷ l)) (sorted (y ∷ l)) t))
+
+  pub sorted-keep : (k : A → Bool) (l : List A) → T (sorted l) → T (sorted (keep k l))
+  sorted-keep k [] t = tt
+  sorted-keep k (d ∷ l) t =
+      let r : T (sorted (keep k l)) = sorted-keep k l (and-r (ahead d l) (sorted l) t) in
+      let f : T (ahead d l) = and-l (ahead d l) (sorted l) t in
+      decide (k d)
+      (λ (h : T (k d)).
+      rw (cond-yes (k d) (d ∷ keep k l) (keep k l) h)
+      (both (ahead d (keep k l)) (sorted (keep k l)) (in-all (isBefore d) (keep k l) (λ x m. all-in (isBefore d) l f (keep-in k l m .0))) r))
+      (λ (h : T (not (k d))). rw (cond-no (k d) (d ∷ keep k l) (keep k l) h) r)
+
+  -- ---- put, by the three places that x may find at y
+
+  module _ (x y : A) (l : List A) where
+    put-after : T (isBefore y x) → put rank x (y ∷ l) ≡ y ∷ put rank x l
+    put-after t = cond-yes (isBefore y x) (y ∷ put rank x l) (cond (isBefore x y) (x ∷ y ∷ l) (y ∷ l)) t
+
+    put-here : T (not (isBefore y x)) → T (isBefore x y) → put rank x (y ∷ l) ≡ x ∷ y ∷ l
+    put-here s t =
+        cond-no (isBefore y x) (y ∷ put rank x l) (cond (isBefore x y) (x ∷ y ∷ l) (y ∷ l)) s
+        ∙ cond-yes (isBefore x y) (x ∷ y ∷ l) (y ∷ l) t
+
+    put-there : T (not (isBefore y x)) → T (not (isBefore x y)) → put rank x (y ∷ l) ≡ y ∷ l
+    put-there s t =
+        cond-no (isBefore y x) (y ∷ put rank x l) (cond (isBefore x y) (x ∷ y ∷ l) (y ∷ l)) s
+        ∙ cond-no (isBefore x y) (x ∷ y ∷ l) (y ∷ l) t
+
+    -- one case of three
+    three : {X : Type 0} → (T (isBefore y x) → X) → (T (not (isBefore y x)) → T (isBefore x y) → X)
+        → (T (not (isBefore y x)) → T (not (isBefore x y)) → X) → X
+    three f g h = decide (isBefore y x) f (λ s. decide (isBefore x y) (g s) (h s))
+
+  pub put-in : (x : A) (l : List A) {z : A} → z ∈ put rank x l → (z ≡ x) ⊎ (z ∈ l)
+  put-in x [] m = List·Memᴰ·cases-cons m
+  put-in x (y ∷ l) {z} m =
+      three x y l
+      (λ t. deeper (List·Memᴰ·cases-cons (rw (put-after x y l t) at m)) (λ (k : z ∈ put rank x l). put-in x l k))
+      (λ s t. List·Memᴰ·cases-cons (rw (put-here x y l s t) at m))
+      (λ s t. inr (rw (put-there x y l s t) at m))
+    where
+      later : (z ≡ x) ⊎ (z ∈ l) → (z ≡ x) ⊎ (z ∈ y ∷ l)
+      later (inl h) = inl h
+      later (inr h) = inr (List·Memᴰ·tail h)
+
+      deeper : (z ≡ y) ⊎ (z ∈ put rank x l) → (z ∈ put rank x l → (z ≡ x) ⊎ (z ∈ l)) → (z ≡ x) ⊎ (z ∈ y ∷ l)
+      deeper (inl h) f = inr (List·Memᴰ·head h)
+      deeper (inr k) f = later (f k)
+
+  -- what was there stays
+  pub in-put : (x : A) (l : List A) {z : A} → z ∈ l → z ∈ put rank x l
+  in-put x [] m = absurd (List·Memᴰ·not-nil m)
+  in-put x (y ∷ l) {z} m =
+      three x y l
+      (λ t. rw (put-after x y l t) (deeper (List·Memᴰ·cases-cons m) (λ (k : z ∈ l). in-put x l k)))
+      (λ s t. rw (put-here x y l s t) (List·Memᴰ·tail m))
+      (λ s t. rw (put-there x y l s t) m)
+    where
+      deeper : (z ≡ y) ⊎ (z ∈ l) → (z ∈ l → z ∈ put rank x l) → z ∈ y ∷ put rank x l
+      deeper (inl h) f = List·Memᴰ·head h
+      deeper (inr k) f = List·Memᴰ·tail (f k)
+
+  -- no member has x's rank
+  abbrev pub Fresh : A → List A → Type 0
+  Fresh x l = (y : A) → y ∈ l → rank x ≡ rank y → ⊥
+
+  pub put-new : (x : A) (l : List A) → Fresh x l → x ∈ put rank x l
+  put-new x [] f = List·Memᴰ·head refl
+  put-new x (y ∷ l) f =
+      three x y l
+      (λ t. rw (put-after x y l t) (List·Memᴰ·tail (put-new x l (λ z m. f z (List·Memᴰ·tail m)))))
+      (λ s t. rw (put-here x y l s t) (List·Memᴰ·head refl))
+      (λ s t. absurd (f y (List·Memᴰ·head refl) (precedes-total (rank x) (rank y) t s)))
+
+  pub length-put : (x : A) (l : List A) → Fresh x l → length (put rank x l) ≡ suc (length l)
+  length-put x [] f = refl
+  length-put x (y ∷ l) f =
+      three x y l
+      (λ t. rw (put-after x y l t) (ap suc (length-put x l (λ z m. f z (List·Memᴰ·tail m)))))
+      (λ s t. rw (put-here x y l s t))
+      (λ s t. absurd (f y (List·Memᴰ·head refl) (precedes-total (rank x) (rank y) t s)))
+
+  pub sorted-put : (x : A) (l : List A) → T (sorted l) → T (sorted (put rank x l))
+  sorted-put x [] t = tt
+  sorted-put x (y ∷ l) t =
+      three x y l
+      (λ b. rw (put-after x y l b)
+      (both (ahead y (put rank x l)) (sorted (put rank x l)) (in-all (isBefore y) (put rank x l) (λ z m. after-y b z (put-in x l m))) (sorted-put x l (and-r (ahead y l) (sorted l) t))))
+      (λ s b. rw (put-here x y l s b)
+      (both (isBefore x y && ahead x l) (sorted (y ∷ l)) (both (isBefore x y) (ahead x l) b (ahead-trans x y l b (and-l (ahead y l) (sorted l) t))) t))
+      (λ s b. rw (put-there x y l s b) t)
+    where
+      after-y : T (isBefore y x) → (z : A) → (z ≡ x) ⊎ (z ∈ l) → T (isBefore y z)
+      after-y b z (inl h) = rw h b
+      after-y b z (inr h) = all-in (isBefore y) l (and-l (ahead y l) (sorted l) t) h
+
+  pub sorted-sort : (l : List A) → T (sorted (sort rank l))
+  sorted-sort [] = tt
+  sorted-sort (x ∷ l) = sorted-put x (sort rank l) (sorted-sort l)
+
+  -- two sorted lists with the same members are one list
+  pub sorted-unique : (ps qs : List A) → T (sorted ps) → T (sorted qs)
+      → ((x : A) → x ∈ ps → x ∈ qs) → ((x : A) → x ∈ qs → x ∈ ps) → ps ≡ qs
+  sorted-unique [] [] s t f g = refl
+  sorted-unique [] (q ∷ qs) s t f g = absurd (List·Memᴰ·not-nil (g q (List·Memᴰ·head refl)))
+  sorted-unique (p ∷ ps) [] s t f g = absurd (List·Memᴰ·not-nil (f p (List·Memᴰ·head refl)))
+  sorted-unique (p ∷ ps) (q ∷ qs) s t f g =
+      ap₂ (λ (x : A) (y : List A). x ∷ y) e
+      (sorted-unique ps qs (and-r (ahead p ps) (sorted ps) s) (and-r (ahead q qs) (sorted qs) t)
+      (λ x m. down x m (List·Memᴰ·cases-cons (f x (List·Memᴰ·tail m))))
+      (λ x m. up x m (List·Memᴰ·cases-cons (g x (List·Memᴰ·tail m)))))
+    where
+      under-p : (x : A) → x ∈ ps → T (isBefore p x)
+      under-p x m = all-in (isBefore p) ps (and-l (ahead p ps) (sorted ps) s) m
+
+      under-q : (x : A) → x ∈ qs → T (isBefore q x)
+      under-q x m = all-in (isBefore q) qs (and-l (ahead q qs) (sorted qs) t) m
+
+      head : (p ≡ q) ⊎ (p ∈ qs) → (q ≡ p) ⊎ (q ∈ ps) → p ≡ q
+      head (inl h) k = h
+      head (inr h) (inl k) = sym k
+      head (inr h) (inr k) = absurd (precedes-irrefl (rank p) (precedes-trans (rank p) (rank q) (rank p) (under-p q k) (under-q p h)))
+
+      e : p ≡ q
+      e = head (List·Memᴰ·cases-cons (f p (List·Memᴰ·head refl))) (List·Memᴰ·cases-cons (g q (List·Memᴰ·head refl)))
+
+      down : (x : A) → x ∈ ps → (x ≡ q) ⊎ (x ∈ qs) → x ∈ qs
+      down x m (inl h) = absurd (precedes-irrefl (rank p) (subst (λ y. T (isBefore p y)) (h ∙ sym e) (under-p x m)))
+      down x m (inr h) = h
+
+      up : (x : A) → x ∈ qs → (x ≡ p) ⊎ (x ∈ ps) → x ∈ ps
+      up x m (inl h) = absurd (precedes-irrefl (rank q) (subst (λ y. T (isBefore q y)) (h ∙ e) (under-q x m)))
+      up x m (inr h) = h

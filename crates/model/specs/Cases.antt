@@ -1,0 +1,224 @@
+-- Test cases of the definitions (document 01, "Test cuts", those marked *; and some further ones), as one table. That every row
+-- holds is a theorem.
+use mathlib.Core.Path.{_≡_}
+use mathlib.Core.Bool.{Bool, true, false}
+use mathlib.Core.List.{List, [], _∷_, _++_, map}
+use Prim.Native.Nat.{ℕ}
+use Prim.Native.String.{String}
+use lib.ListN.{take, replicate}
+use Rattle.model.specs.Lists.{range, pad}
+use Rattle.model.specs.Label.{dominates}
+use Rattle.model.specs.Path.{Step}
+use Rattle.model.specs.Value.{Content}
+use Rattle.model.specs.Partition.{partitionSize}
+use Rattle.model.specs.Store.{partition, emptyStore}
+use Rattle.model.specs.Text.{ascii}
+use Rattle.model.specs.Call.{subject, Op, view, insert, update, delete, Call, Answer}
+use Rattle.model.specs.Run.{answerOf, storeAfter, call, run}
+use Rattle.model.specs.Script.{lentPath, Prints}
+
+-- ---- what a row says
+
+-- a partition's bytes, the rest being zero
+pub data Left : Type 0 where
+  left : (label : ℕ) (bytes : List ℕ) → Left
+
+pub data Case : Type 0 where
+  -- l dominates m, or not
+  dominance : (l m : ℕ) (holds : Bool) → Case
+  -- a call on a store
+  lent : (store : List ℕ) (last : Call) (answer : Answer) → Case
+  -- a call on the empty store after other calls: its answer, and partitions afterwards
+  calls : (before : List Call) (last : Call) (answer : Answer) (partitions : List Left) → Case
+  -- what the runner prints for an input
+  script : (input : String) (output : String) → Case
+
+abbrev pub storeAfterAll : List Call → List ℕ
+storeAfterAll cs = run (map call cs) emptyStore
+
+abbrev pub AllLeft : List Left → List ℕ → Type 0
+AllLeft [] s = Unit {0}
+AllLeft (left n x ∷ ls) s = (partition n s ≡ pad partitionSize x) × AllLeft ls s
+
+abbrev pub Holds : Case → Type 0
+Holds (dominance l m b) = dominates l m ≡ b
+Holds (lent s c a) = answerOf c s ≡ a
+Holds (calls cs c a ls) = (answerOf c (storeAfterAll cs) ≡ a) × AllLeft ls (storeAfter c (storeAfterAll cs))
+Holds (script i o) = Prints (ascii i) (ascii o)
+
+-- ---- words for the rows
+
+abbrev by : ℕ → Op → Call
+by s o = record { who = subject s; op = o }
+
+abbrev step : ℕ → ℕ → Step
+step n l = record { name = n; label = l }
+
+abbrev path : List Step → List ℕ
+path p = lentPath p
+
+abbrev group : Content
+group = record { kind = 0; value = [] }
+
+-- a measure's four bytes
+abbrev measure : ℕ → ℕ → ℕ → ℕ → Content
+measure a b c d = record { kind = 1; value = a ∷ b ∷ c ∷ d ∷ [] }
+
+abbrev text : String → Content
+text t = record { kind = 2; value = ascii t }
+
+-- done with a count and nothing written; refused; done with the bytes written, which are counted
+abbrev counted : ℕ → Answer
+counted n = record { number = 0; count = n; written = [] }
+
+abbrev refusedBy : ℕ → Answer
+refusedBy k = record { number = k; count = 0; written = [] }
+
+abbrev printed : ℕ → String → Answer
+printed n t = record { number = 0; count = n; written = ascii t }
+
+-- ---- calls of the rows
+
+-- 10:0, and 20:16 under it
+abbrev p10 : List ℕ
+p10 = path (step 10 0 ∷ [])
+
+abbrev p20 : List ℕ
+p20 = path (step 10 0 ∷ step 20 16 ∷ [])
+
+-- 10:0, and the version of label 16
+abbrev insert10 : Call
+insert10 = by 0 (insert p10 group)
+
+abbrev higher10 : Call
+higher10 = by 16 (insert (path (step 10 16 ∷ [])) group)
+
+-- what stands before the views of document 01's listing; -150 is the measure
+abbrev listingCalls : List Call
+listingCalls = insert10 ∷ by 16 (insert p20 (measure 106 255 255 255)) ∷ by 0 (delete p10) ∷ []
+
+abbrev sleeve : Call
+sleeve = by 0 (insert p10 (text "SLEEVE"))
+
+-- an element of label 0 with two more below, and one of label 16 below one of these
+abbrev nested : List Call
+nested =
+    by 0 (insert (path (step 1 0 ∷ [])) group)
+    ∷ by 0 (insert (path (step 1 0 ∷ step 2 0 ∷ [])) group)
+    ∷ by 0 (insert (path (step 1 0 ∷ step 3 0 ∷ [])) group)
+    ∷ by 16 (insert (path (step 1 0 ∷ step 2 0 ∷ step 4 16 ∷ [])) group)
+    ∷ []
+
+abbrev updateTop : Call
+updateTop = by 0 (update (path (step 1 0 ∷ [])) (text "A"))
+
+abbrev deleteTop : Call
+deleteTop = by 0 (delete (path (step 1 0 ∷ [])))
+
+-- an element n:0, and 32 of them
+abbrev numbered : ℕ → Call
+numbered n = by 0 (insert (path (step n 0 ∷ [])) group)
+
+abbrev full : List Call
+full = range numbered 1 32
+
+-- five steps, and the calls that make them and two elements of label 31 below
+abbrev five : List Step
+five = step 258 0 ∷ step 2 1 ∷ step 3 3 ∷ step 4 7 ∷ step 5 15 ∷ []
+
+abbrev sixth : ℕ → List ℕ
+sixth n = path (five ++ (step n 31 ∷ []))
+
+abbrev deep : List Call
+deep =
+    by 0 (insert (path (take 1 five)) group)
+    ∷ by 1 (insert (path (take 2 five)) group)
+    ∷ by 3 (insert (path (take 3 five)) group)
+    ∷ by 7 (insert (path (take 4 five)) group)
+    ∷ by 15 (insert (path five) group)
+    ∷ by 31 (insert (sixth 6) group)
+    ∷ by 31 (insert (sixth 7) (measure 106 255 255 255))
+    ∷ []
+
+-- ---- bytes of the rows
+
+-- a slot in the fields that document 01 numbers: depth, 12 bytes of names, 6 labels, kind, length, value and zeros
+abbrev slot : ℕ → List ℕ → List ℕ → ℕ → ℕ → List ℕ → List ℕ
+slot d ns ls k n v = (d ∷ ns) ++ ls ++ (k ∷ n ∷ []) ++ v
+
+-- the slots of the elements that deep and a text of name 8 make
+abbrev deepSlot : ℕ → ℕ → ℕ → List ℕ → List ℕ
+deepSlot n k c v =
+    slot 6 (2 ∷ 1 ∷ 2 ∷ 0 ∷ 3 ∷ 0 ∷ 4 ∷ 0 ∷ 5 ∷ 0 ∷ n ∷ 0 ∷ []) (0 ∷ 1 ∷ 3 ∷ 7 ∷ 15 ∷ 31 ∷ []) k c v
+
+abbrev zeros : ℕ → List ℕ
+zeros n = replicate n 0
+
+-- ---- the rows
+
+-- the cases that document 01 marks
+unfoldable pub markedCases : List Case
+markedCases =
+    dominance 19 17 true
+    ∷ dominance 16 9 false
+    ∷ dominance 9 16 false
+    ∷ calls [] (by 31 (view [] 16384)) (printed 10 "VIEW\t31\t0\n") []
+    ∷ calls [] insert10 (counted 0)
+    (left 0 ((1 ∷ 0 ∷ 0 ∷ 0 ∷ []) ++ slot 1 (10 ∷ zeros 11) (zeros 6) 0 0 (zeros 19)) ∷ left 16 [] ∷ [])
+    ∷ calls (insert10 ∷ []) insert10 (refusedBy 8) []
+    ∷ calls (insert10 ∷ []) higher10 (counted 0) []
+    ∷ calls (insert10 ∷ []) (by 16 (delete p10)) (refusedBy 6) []
+    ∷ calls (insert10 ∷ higher10 ∷ []) (by 0 (view (path (step 10 16 ∷ [])) 16384)) (refusedBy 7) []
+    ∷ calls [] (by 16 (insert (path (step 10 16 ∷ step 20 9 ∷ [])) group)) (refusedBy 4) []
+    ∷ lent [] (by 40 (view [] 16384)) (refusedBy 1)
+    ∷ calls listingCalls sleeve (counted 0) []
+    ∷ calls (listingCalls ++ (sleeve ∷ [])) (by 16 (view [] 16384))
+    (printed 45 "VIEW\t16\t2\n1\t10\t0\tP\tT\tSLEEVE\n2\t20\t16\tP\tM\t-150\n") []
+    ∷ []
+
+-- further cases
+unfoldable pub furtherCases : List Case
+furtherCases =
+    -- the listing: 40 bytes fit, 39 do not
+    calls listingCalls (by 16 (view [] 40)) (printed 40 "VIEW\t16\t2\n1\t10\t0\tR\t-\t-\n2\t20\t16\tP\tM\t-150\n") []
+    ∷ calls listingCalls (by 16 (view [] 39)) (refusedBy 10) []
+    -- a higher version does not hinder an insert
+    ∷ calls (higher10 ∷ []) insert10 (counted 0) []
+    -- an update under a removed parent
+    ∷ calls listingCalls (by 16 (update p20 (measure 7 0 0 0))) (counted 1)
+    (left 16 ((1 ∷ 0 ∷ 0 ∷ 0 ∷ []) ++ slot 2 (10 ∷ 0 ∷ 20 ∷ zeros 9) (0 ∷ 16 ∷ zeros 4) 1 4 (7 ∷ zeros 18)) ∷ left 0 [] ∷ [])
+    -- an update of an element with two more of its label below, and the view after it
+    ∷ calls nested updateTop (counted 3) []
+    ∷ calls (nested ++ (updateTop ∷ [])) (by 0 (view [] 16384)) (printed 21 "VIEW\t0\t1\n1\t1\t0\tP\tT\tA\n") []
+    -- the 32nd insert of a label is done, and makes a full partition: an insert is refused there; an update is done, and another
+    -- label's insert
+    ∷ calls (range numbered 1 31) (numbered 32) (counted 0) []
+    ∷ calls full (numbered 33) (refusedBy 9) []
+    ∷ calls full (by 0 (update (path (step 5 0 ∷ [])) (text "A"))) (counted 1) []
+    ∷ calls full (by 16 (insert (path (step 33 16 ∷ [])) group)) (counted 0) []
+    -- a delete with elements of its label and a higher one below, and the view after it
+    ∷ calls nested deleteTop (counted 3)
+    (left 0 [] ∷ left 16 ((1 ∷ 0 ∷ 0 ∷ 0 ∷ []) ++ slot 3 (1 ∷ 0 ∷ 2 ∷ 0 ∷ 4 ∷ zeros 7) (0 ∷ 0 ∷ 16 ∷ zeros 3) 0 0 (zeros 19)) ∷ [])
+    ∷ calls (nested ++ (deleteTop ∷ [])) (by 16 (view [] 16384))
+    (printed 47 "VIEW\t16\t3\n1\t1\t0\tR\t-\t-\n2\t2\t0\tR\t-\t-\n3\t4\t16\tP\tG\t-\n") []
+    -- the versions of a name stand together, by their labels
+    ∷ calls (numbered 11 ∷ higher10 ∷ insert10 ∷ []) (by 16 (view [] 16384))
+    (printed 50 "VIEW\t16\t3\n1\t10\t0\tP\tG\t-\n1\t10\t16\tP\tG\t-\n1\t11\t0\tP\tG\t-\n") []
+    -- names are compared as numbers
+    ∷ calls (map numbered (257 ∷ 255 ∷ 256 ∷ [])) (by 0 (view [] 16384))
+    (printed 51 "VIEW\t0\t3\n1\t255\t0\tP\tG\t-\n1\t256\t0\tP\tG\t-\n1\t257\t0\tP\tG\t-\n") []
+    -- six steps, a name of two bytes, and an element of each kind, byte for byte
+    ∷ calls deep (by 31 (insert (sixth 8) (text "AB"))) (counted 0)
+    (left 31
+    ((3 ∷ 0 ∷ 0 ∷ 0 ∷ [])
+    ++ deepSlot 6 0 0 (zeros 19)
+    ++ deepSlot 7 1 4 (106 ∷ 255 ∷ 255 ∷ 255 ∷ zeros 15)
+    ++ deepSlot 8 2 2 (65 ∷ 66 ∷ zeros 17)) ∷ [])
+    -- document 01's script, with lines that do not read and a last one without its end
+    ∷ script
+    "0\tI\t10:0\tG\t-\n16\tI\t10:0/20:16\tM\t-150\n0\tD\t10:0\n0\tV\t/\n16\tV\t/\n\n16\tV\t/ \n40\tV\t/\n256\tV\t/\n0\tI\t7:0\tT\t\n16\tV\t10:0"
+    "A\t0\t0\nA\t0\t0\nA\t0\t1\nVIEW\t0\t0\nA\t0\t9\nVIEW\t16\t2\n1\t10\t0\tR\t-\t-\n2\t20\t16\tP\tM\t-150\nA\t0\t40\nA\t?\t0\nA\t?\t0\nA\t2\t0\nA\t?\t0\nA\t5\t0\nVIEW\t16\t2\n1\t10\t0\tR\t-\t-\n2\t20\t16\tP\tM\t-150\nA\t0\t40\n"
+    ∷ []
+
+unfoldable pub cases : List Case
+cases = markedCases ++ furtherCases
