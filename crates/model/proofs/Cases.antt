@@ -7,23 +7,23 @@ use Prim.Native.Nat.{ℕ}
 use lib.Dec.{T, eqb}
 use mir.Facts.{eqb-yes}
 use Rattle.model.specs.Lists
-use Rattle.model.specs.Lists.{all, isByte, sameBytes, pad}
+use Rattle.model.specs.Lists.{all, isByte, pad}
 use Rattle.model.specs.Label.{isLabel, level, sizing, fabric, cost, includes, dominates}
 use Rattle.model.specs.Path.{sameStep, validStep, validPath, key}
 use Rattle.model.specs.Value.{isPrintable, allowed, storable, bringable}
 use Rattle.model.specs.Element.{validElement, contains, closed, remove}
-use Rattle.model.specs.Slot.{pathBytes, contentBytes, slotBytes, depth, stepAt, valueLength, readPath, readContent, readSlot, unusedZero}
-use Rattle.model.specs.Partition.{partitionSize, layout, count, slotAt, slots, readPartition, wellFormedBy}
+use Rattle.model.specs.Slot.{pathBytes, contentBytes, slotBytes, readPath, readContent, readSlot, unusedZero}
+use Rattle.model.specs.Partition.{partitionSize, layout, count, slots, readPartition, wellFormedBy}
 use Rattle.model.specs.Store.{emptyStore, hasPartition, partition, replace}
 use Rattle.model.specs.Model.{isHeld, elements, openCell, cellBytes, Model, openModel, ownSet, live}
 use Rattle.model.specs.Text.{ascii, decimal, measureOf, signed}
 use Rattle.model.specs.View.{visible, inView, listed, letter, shown, pathLine, headLine, listingOf, listing}
 use Rattle.model.specs.Call.{subjectOf, goodPath, someRaw, callerRows, opRows, table, refusal, Answer, Outcome, refused, done, extending, added, effect, outcome, after}
-use Rattle.model.specs.Run.{answerOf, storeAfter, feed}
-use Rattle.model.specs.Script.{ScriptCall, stepText, callText, inRange, callOf, linesOf, unreadLine, answerLines, output, Prints}
-use Rattle.model.specs.Cases.{Left, left, Case, dominance, lent, calls, script, storeAfterAll, AllLeft, Holds, markedCases, furtherCases, cases}
+use Rattle.model.specs.Run.{answerOf, storeAfter, corrupted, feed}
+use Rattle.model.specs.Script.{ScriptCall, stepText, callText, inRange, callOf, linesOf, unreadLine, answerLines, output}
+use Rattle.model.specs.Cases.{Expected, holds, Case, dominance, onStore, calls, script, storeAfterAll, AllHeld, Holds, markedCases, furtherCases, cases}
 use Rattle.model.proofs.Bools.{and-l, and-r, is-true, is-false}
-use Rattle.model.proofs.Lists.{sameBytes-eq}
+use Rattle.model.proofs.Lists.{sameBytes, sameBytes-eq}
 use Rattle.model.proofs.Members.{_∈_, all-in}
 use Rattle.model.proofs.Dominance.{top-label}
 use Rattle.model.proofs.Noninterference.{Agree, open-bytes, same-outcome, agree-seen, call-lawful}
@@ -36,9 +36,9 @@ use Rattle.model.proofs.Empty.{emptyModel, all-remain, agree-empty}
 sameAnswer : Answer → Answer → Bool
 sameAnswer a b = eqb (a .number) (b .number) && eqb (a .count) (b .count) && sameBytes (a .written) (b .written)
 
-abbrev leftTest : Model → List Left → Bool
-leftTest m [] = true
-leftTest m (left n x ∷ ls) = isLabel n && sameBytes (cellBytes (m .cell n)) (pad partitionSize x) && leftTest m ls
+abbrev heldTest : Model → List Expected → Bool
+heldTest m [] = true
+heldTest m (holds n x ∷ ls) = isLabel n && sameBytes (cellBytes (m .cell n)) (pad partitionSize x) && heldTest m ls
 
 -- what the runner prints, of a model
 abbrev modelOutput : List (Option ScriptCall) → Model → List ℕ
@@ -49,8 +49,8 @@ modelOutput (some c ∷ rs) m = answerLines (outcome (callOf c) m .answer) ++ mo
 abbrev caseTest : Case → Bool
 caseTest (dominance l m true) = dominates l m
 caseTest (dominance l m false) = not (dominates l m)
-caseTest (lent s c a) = sameAnswer (answerOf c s) a
-caseTest (calls cs c a ls) = sameAnswer (outcome c (feed cs emptyModel) .answer) a && leftTest (after c (feed cs emptyModel)) ls
+caseTest (onStore s c a) = sameAnswer (answerOf c s) a
+caseTest (calls cs c a ls) = sameAnswer (outcome c (feed cs emptyModel) .answer) a && heldTest (after c (feed cs emptyModel)) ls
 caseTest (script i o) = sameBytes (ascii o) (modelOutput (map readLine (linesOf (ascii i))) emptyModel)
 
 -- ---- a row that passes holds of the bytes
@@ -63,15 +63,15 @@ same-answer a b t =
     let w : a .written ≡ b .written = sameBytes-eq (a .written) (b .written) (search (and-l, and-r)) in
     λ i. record { number = n i; count = c i; written = w i }
 
-all-left : (ls : List Left) (s : List ℕ) (m : Model) → Agree 31 s m → T (leftTest m ls) → AllLeft ls s
-all-left [] s m g t = tt
-all-left (left n x ∷ ls) s m g t =
+all-held : (ls : List Expected) (s : List ℕ) (m : Model) → Agree 31 s m → T (heldTest m ls) → AllHeld ls s
+all-held [] s m g t = tt
+all-held (holds n x ∷ ls) s m g t =
     let label : T (isLabel n) = search (and-l, and-r) in
     let bytes : T (sameBytes (cellBytes (m .cell n)) (pad partitionSize x)) = search (and-l, and-r) in (
       sym (open-bytes n (partition n s))
           ∙ ap cellBytes (g .cells n (top-label n label))
           ∙ sameBytes-eq (cellBytes (m .cell n)) (pad partitionSize x) bytes,
-      all-left ls s m g (search (and-l, and-r)),
+      all-held ls s m g (search (and-l, and-r)),
     )
 
 output-model : (rs : List (Option ScriptCall)) (s : List ℕ) (m : Model) → Agree 31 s m → output rs s ≡ modelOutput rs m
@@ -86,15 +86,15 @@ case-holds : (r : Case) → T (caseTest r) → Holds r
 unfolding answerOf
 case-holds (dominance l m true) t = is-true (dominates l m) t
 case-holds (dominance l m false) t = is-false (dominates l m) t
-case-holds (lent s c a) t = same-answer (answerOf c s) a t
+case-holds (onStore s c a) t = same-answer (answerOf c s) a t
 case-holds (calls cs c a ls) t =
     let s : List ℕ = storeAfterAll cs in
     let m : Model = feed cs emptyModel in
     let g : Agree 31 s m = agree-empty cs in (
       ap (λ (x : Outcome). x .answer) (same-outcome call-lawful 31 c s m (all-remain c) g)
-          ∙ same-answer (outcome c m .answer) a (and-l (sameAnswer (outcome c m .answer) a) (leftTest (after c m) ls) t),
-      all-left ls (storeAfter c s) (after c m) (agree-seen call-lawful 31 c s m (all-remain c) g)
-          (and-r (sameAnswer (outcome c m .answer) a) (leftTest (after c m) ls) t),
+          ∙ same-answer (outcome c m .answer) a (and-l (sameAnswer (outcome c m .answer) a) (heldTest (after c m) ls) t),
+      all-held ls (storeAfter c s) (after c m) (agree-seen call-lawful 31 c s m (all-remain c) g)
+          (and-r (sameAnswer (outcome c m .answer) a) (heldTest (after c m) ls) t),
     )
 case-holds (script i o) t =
     let rs : List (Option ScriptCall) = map readLine (linesOf (ascii i)) in
@@ -103,7 +103,7 @@ case-holds (script i o) t =
 -- ---- the whole table passes
 
 tested : T (all caseTest cases)
-unfolding sameAnswer emptyModel cases markedCases furtherCases isByte pad isLabel level sizing fabric cost includes dominates sameStep validStep validPath key isPrintable allowed storable bringable validElement contains closed remove pathBytes contentBytes slotBytes depth stepAt valueLength readPath readContent readSlot unusedZero layout count slotAt slots readPartition wellFormedBy hasPartition partition replace isHeld elements openCell cellBytes openModel ownSet live decimal measureOf signed visible inView listed letter shown pathLine headLine listingOf listing subjectOf goodPath someRaw callerRows opRows table refusal refused done extending added effect outcome after answerOf storeAfter callText inRange stepText callOf unreadLine answerLines isDigit callGuess stepGuess readable readLine
+unfolding sameAnswer emptyModel cases markedCases furtherCases isByte pad isLabel level sizing fabric cost includes dominates sameStep validStep validPath key isPrintable allowed storable bringable validElement contains closed remove pathBytes contentBytes slotBytes readPath readContent readSlot unusedZero layout slots readPartition wellFormedBy hasPartition partition replace isHeld elements openCell cellBytes openModel ownSet live decimal measureOf signed visible inView listed letter shown pathLine headLine listingOf listing subjectOf goodPath someRaw callerRows opRows table refusal refused done extending added effect outcome after answerOf storeAfter corrupted emptyStore callText inRange stepText callOf unreadLine answerLines isDigit callGuess stepGuess readable readLine
 tested = tt
 
 -- each row of the table holds

@@ -99,3 +99,17 @@ top-label n t =
       by-fabric = omega arith;
       by-cost = omega arith;
     })
+
+-- and each label dominates label 0
+pub bottom-label : (n : ℕ) → T (isLabel n) → T (dominates n 0)
+unfolding isLabel level sizing fabric cost
+bottom-label n t =
+    above-dominates n 0
+    (record {
+      upper = t;
+      lower = tt;
+      by-level = omega arith;
+      by-sizing = omega arith;
+      by-fabric = omega arith;
+      by-cost = omega arith;
+    })

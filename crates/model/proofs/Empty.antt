@@ -13,12 +13,12 @@ use Rattle.model.specs.Store.{storeSize, partitionStart, hasPartition, p
 use Rattle.model.specs.Model.{held, raw, openCell, Model, openModel}
 use Rattle.model.specs.Call.{Call, callSubject, after}
 use Rattle.model.specs.Run.{storeAfter, call, run, remains, feed}
-use Rattle.model.proofs.Bools.{or-l, or-r, decide, cond-yes, cond-no}
+use Rattle.model.proofs.Bools.{or-r, decide, cond-yes, cond-no}
 use Rattle.model.proofs.Lists.{take-replicate, drop-replicate}
 use Rattle.model.proofs.Dominance.{label-lt, top-label}
 use Rattle.model.proofs.Stores.{yes-has, partition-part}
 use Rattle.model.proofs.Keeps.{empty-valid}
-use Rattle.model.proofs.Noninterference.{open-layout, Agree, agree-seen, call-lawful}
+use Rattle.model.proofs.Noninterference.{no-label-remains, open-layout, Agree, agree-seen, call-lawful}
 
 -- an empty set for each label
 unfoldable pub emptyModel : Model
@@ -69,7 +69,7 @@ unfolding remains
 all-remain c =
     decide (isLabel (callSubject c))
     (λ (t : T (isLabel (callSubject c))). or-r (not (isLabel (callSubject c))) (dominates 31 (callSubject c)) (top-label (callSubject c) t))
-    (λ (t : T (not (isLabel (callSubject c)))). or-l (not (isLabel (callSubject c))) (dominates 31 (callSubject c)) t)
+    (λ (t : T (not (isLabel (callSubject c)))). no-label-remains 31 c t)
 
 pub agree-open : (o : ℕ) (s : List ℕ) → Agree o s (openModel s)
 unfolding openModel

@@ -15,8 +15,10 @@ pub mod Keeps
 pub mod Noninterference
 pub mod Refusals
 pub mod Marks
+pub mod Listings
 pub mod Empty
 pub mod Cases
+pub mod Walks
 pub mod Fields
 pub mod Decimal
 pub mod Script

@@ -1,6 +1,6 @@
 -- Parts of lists, lists of a fixed width, zeros and ranges.
 use mathlib.Core.Path.{_≡_, refl, sym, ap, ap₂, _∙_}
-use mathlib.Core.Bool.{Bool, true}
+use mathlib.Core.Bool.{Bool, true, false, _&&_}
 use mathlib.Core.List.{List, [], _∷_, _++_, append-assoc}
 use Prim.Native.Nat.{ℕ, zero, suc, _+_, _-_, _≤_, _<_}
 use native.Mathlib.Nat.{sub-zero, zero-sub, suc-sub-suc}
@@ -9,10 +9,17 @@ use lib.ListN.{length, take, drop, getD, replicate, length-append, length-take, 
 use lib.Seq.{take-append-add, take-add, take-all, take-at, drop-at, drop-drop, drop-cons, length-take-le}
 use lib.Dec.{T, eqb, eqb-refl}
 use mir.Facts.{eqb-yes, yes-ltb}
-use Rattle.model.specs.Lists.{all, range, isByte, zeros, sameBytes, between, pad}
+use Rattle.model.specs.Lists.{all, range, isByte, allZero, between, pad}
 use Rattle.model.proofs.Bools.{and-l, and-r, both}
 
 -- ---- equality
+
+-- the same numbers in the same order, as a test
+abbrev pub sameBytes : List ℕ → List ℕ → Bool
+sameBytes [] [] = true
+sameBytes [] (y ∷ m) = false
+sameBytes (x ∷ l) [] = false
+sameBytes (x ∷ l) (y ∷ m) = eqb x y && sameBytes l m
 
 pub sameBytes-eq : (x y : List ℕ) → T (sameBytes x y) → x ≡ y
 sameBytes-eq [] [] t = refl
@@ -57,9 +64,9 @@ all-implies p q (x ∷ l) f t = both (q x) (all q l) (f x (and-l (p x) (all p l)
 
 -- ---- zeros and fixed widths
 
-pub zeros-eq : (l : List ℕ) → T (zeros l) → l ≡ replicate (length l) 0
-zeros-eq [] t = refl
-zeros-eq (x ∷ l) t = ap₂ (λ (a : ℕ) (r : List ℕ). a ∷ r) (eqb-yes (and-l (eqb x 0) (zeros l) t)) (zeros-eq l (and-r (eqb x 0) (zeros l) t))
+pub all-zero-eq : (l : List ℕ) → T (allZero l) → l ≡ replicate (length l) 0
+all-zero-eq [] t = refl
+all-zero-eq (x ∷ l) t = ap₂ (λ (a : ℕ) (r : List ℕ). a ∷ r) (eqb-yes (and-l (eqb x 0) (allZero l) t)) (all-zero-eq l (and-r (eqb x 0) (allZero l) t))
 
 pub take-replicate : (m n : ℕ) → m ≤ n → take {A = ℕ} m (replicate n 0) ≡ replicate m 0
 take-replicate zero n h = refl
@@ -137,14 +144,14 @@ pub joins : {x y : List ℕ} (a c e : ℕ) (l : List ℕ) → a ≤ c → c ≤ 
 joins a c e l h k p q = ap₂ (λ (u v : List ℕ). u ++ v) p q ∙ between-join a c e l h k
 
 -- a part, and zeros up to e
-pub pad-between : (a c e : ℕ) (l : List ℕ) → a ≤ c → c ≤ e → e ≤ length l → T (zeros (between c e l)) → pad (e - a) (between a c l) ≡ between a e l
+pub pad-between : (a c e : ℕ) (l : List ℕ) → a ≤ c → c ≤ e → e ≤ length l → T (allZero (between c e l)) → pad (e - a) (between a c l) ≡ between a e l
 pad-between a c e l h k m t =
     let p : length (between a c l) ≡ c - a = length-between a c l h (omega arith) in
     let q : length (between c e l) ≡ e - c = length-between c e l k m in
     let z : e - a - (c - a) ≡ e - c = omega arith in
     pad-short (e - a) (between a c l) (omega arith)
     ∙ ap (λ (n : ℕ). between a c l ++ replicate n 0) (ap (λ (n : ℕ). e - a - n) p ∙ z ∙ sym q)
-    ∙ ap (λ (r : List ℕ). between a c l ++ r) (sym (zeros-eq (between c e l) t))
+    ∙ ap (λ (r : List ℕ). between a c l ++ r) (sym (all-zero-eq (between c e l) t))
     ∙ between-join a c e l h k
 
 -- what begins at a
@@ -162,7 +169,7 @@ drop-next (y ∷ l) (suc a) x r e = drop-next l a x r e
 
 -- zeros behind a part
 pub zeros-behind : (b : List ℕ) (a k : ℕ) (l r : List ℕ) → drop a b ≡ l ++ (replicate k 0 ++ r)
-    → (c e : ℕ) → c ≡ a + length l → e ≡ c + k → T (zeros (between c e b))
+    → (c e : ℕ) → c ≡ a + length l → e ≡ c + k → T (allZero (between c e b))
 zeros-behind b a k l r h c e p q =
     let n : e - c ≡ k = omega arith in
     rw (

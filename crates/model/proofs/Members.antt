@@ -2,7 +2,7 @@
 use mathlib.Core.Path.{_≡_, refl, ap}
 use mathlib.Core.Logic.{_⊎_, inl, inr}
 use mathlib.Core.Bool.{Bool, not}
-use mathlib.Core.List.{List, [], _∷_, map, List·Memᴰ, List·Memᴰ·head, List·Memᴰ·tail, List·Memᴰ·cases-cons, List·Memᴰ·not-nil, List·Memᴰ·append-cases}
+use mathlib.Core.List.{List, [], _∷_, _++_, map, List·Memᴰ, List·Memᴰ·head, List·Memᴰ·tail, List·Memᴰ·cases-cons, List·Memᴰ·not-nil, List·Memᴰ·append-cases}
 use lib.Dec.{T}
 use mir.Facts.{or-yes, T-not}
 use Rattle.model.specs.Lists.{all, any, keep, gather}
@@ -11,6 +11,19 @@ use Rattle.model.proofs.Bools.{and-l, and-r, both, or-l, or-r, decide, 
 infix 50 _∈_
 abbrev pub _∈_ : {A : Type 0} → A → List A → Type 0
 x ∈ l = List·Memᴰ x l
+
+-- members of the parts of a list
+pub in-front : {A : Type 0} (l m : List A) {x : A} → x ∈ l → x ∈ l ++ m
+in-front [] m k = absurd (List·Memᴰ·not-nil k)
+in-front (y ∷ l) m {x} k = go (List·Memᴰ·cases-cons k) (λ (j : x ∈ l). in-front l m j)
+  where
+    go : (x ≡ y) ⊎ (x ∈ l) → (x ∈ l → x ∈ l ++ m) → x ∈ y ∷ (l ++ m)
+    go (inl e) f = List·Memᴰ·head e
+    go (inr j) f = List·Memᴰ·tail (f j)
+
+pub in-back : {A : Type 0} (l m : List A) {x : A} → x ∈ m → x ∈ l ++ m
+in-back [] m k = k
+in-back (y ∷ l) m k = List·Memᴰ·tail (in-back l m k)
 
 module _ {A : Type 0} where
   pub all-in : (p : A → Bool) (l : List A) → T (all p l) → {x : A} → x ∈ l → T (p x)
@@ -73,6 +86,14 @@ module _ {A : Type 0} where
       go : (y ∈ f x) ⊎ (y ∈ gather f l) → (y ∈ gather f l → (z : A) × (z ∈ l) × (y ∈ f z)) → (z : A) × (z ∈ x ∷ l) × (y ∈ f z)
       go (inl h) g = (x, List·Memᴰ·head refl, h)
       go (inr k) g = let r = g k in (r .0, List·Memᴰ·tail (r .1), r .2)
+
+  pub in-gather : {B : Type 0} (f : A → List B) (l : List A) {x : A} {y : B} → x ∈ l → y ∈ f x → y ∈ gather f l
+  in-gather f [] m k = absurd (List·Memᴰ·not-nil m)
+  in-gather {B} f (z ∷ l) {x} {y} m k = go (List·Memᴰ·cases-cons m) (λ (j : x ∈ l). in-gather f l j k)
+    where
+      go : (x ≡ z) ⊎ (x ∈ l) → (x ∈ l → y ∈ gather f l) → y ∈ gather f (z ∷ l)
+      go (inl e) g = in-front (f z) (gather f l) (rw e at k)
+      go (inr j) g = in-back (f z) (gather f l) (g j)
 
   pub map-in : {B : Type 0} (f : A → B) (l : List A) {y : B} → y ∈ map f l → (x : A) × (x ∈ l) × (y ≡ f x)
   map-in f [] m = absurd (List·Memᴰ·not-nil m)

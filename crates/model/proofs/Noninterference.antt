@@ -18,7 +18,7 @@ use Rattle.model.specs.Store.{partition, replace}
 use Rattle.model.specs.Model.{Cell, held, raw, openCell, cellBytes, Model, openModel, withSet}
 use Rattle.model.specs.Call.{Call, callSubject, Answer, Outcome, outcome, after}
 use Rattle.model.specs.Run.{answerOf, writeSet, storeAfter, Event, call, corruption, corrupted, remains, observed, purge, spares, feed, answers, Unaffected, Noninterference}
-use Rattle.model.proofs.Bools.{and-l, and-r, decide, cond-yes, cond-no}
+use Rattle.model.proofs.Bools.{or-l, and-l, and-r, decide, cond-yes, cond-no}
 use Rattle.model.proofs.Lists.{length-pad}
 use Rattle.model.proofs.Dominance.{dominates-upper, dominates-trans}
 use Rattle.model.proofs.Partitions.{ValidSet, well-formed, yes-well-formed, layout-read, read-layout, layout-well-formed, length-layout}
@@ -26,7 +26,8 @@ use Rattle.model.proofs.Stores.{yes-has, length-replace, partition-own,
 use Rattle.model.proofs.Restriction.{restrict, outcome-restrict}
 use Rattle.model.proofs.Keeps.{ValidSets, open-valid, Kept, call-keeps}
 
--- the two laws of a call
+-- the two laws of a call. What it keeps: a set that it changes is valid, and it changes one only for a label and on a store of
+-- the right size
 pub record Lawful (c : Call) : Type 0 where
   pub blind : (m : Model) → outcome c m ≡ outcome c (restrict (callSubject c) m)
   pub keeps : (m : Model) (es : List Element) → ValidSets m → outcome c m .change ≡ some es → Kept (callSubject c) m es
@@ -72,6 +73,11 @@ length-stays c s = go (outcome c (openModel s) .change)
 pub record Agree (o : ℕ) (s : List ℕ) (m : Model) : Type 0 where
   pub sizes : length s ≡ m .size
   pub cells : (n : ℕ) → T (dominates o n) → openCell n (partition n s) ≡ m .cell n
+
+-- a call whose subject is no label remains for every observer
+pub no-label-remains : (o : ℕ) (c : Call) → T (not (isLabel (callSubject c))) → T (remains o c)
+unfolding remains
+no-label-remains o c t = or-l (not (isLabel (callSubject c))) (dominates o (callSubject c)) t
 
 -- a call that remains reads only partitions that the observer dominates
 remains-below : (o n : ℕ) (c : Call) → T (remains o c) → T (dominates (callSubject c) n) → T (dominates o n)
@@ -208,3 +214,19 @@ call-lawful c = record { blind = outcome-restrict c; keeps = call-keeps c }
 -- demand 3
 pub noninterference : Noninterference
 noninterference = lawful-noninterference call-lawful
+
+-- every call keeps each well-formed partition of the store well formed
+pub stays-well-formed : (c : Call) (s : List ℕ) (n : ℕ) → T (wellFormed n (partition n s)) → T (wellFormed n (partition n (storeAfter c s)))
+unfolding storeAfter openModel
+stays-well-formed c s n w =
+    decide (eqb n (callSubject c))
+    (λ (t : T (eqb n (callSubject c))). go (outcome c (openModel s) .change) refl (eqb-yes t))
+    (λ (t : T (not (eqb n (callSubject c)))). rw (others-stay c s n (eqb-no t)) w)
+  where
+    go : (ch : Option (List Element)) → outcome c (openModel s) .change ≡ ch → n ≡ callSubject c
+        → T (wellFormed n (partition n (writeSet (callSubject c) ch s)))
+    go none e q = w
+    go (some es) e q =
+        let k : Kept (callSubject c) (openModel s) es = call-keeps c (openModel s) es (open-valid s) e in
+        rw (q, partition-own (callSubject c) (layout es) s (yes-has (callSubject c) s (k .size) (k .label)) (length-layout es))
+        (yes-well-formed key (callSubject c) (layout es) (layout-well-formed key (callSubject c) es (k .valid)))

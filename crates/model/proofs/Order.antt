@@ -3,15 +3,15 @@
 use mathlib.Core.Path.{_≡_, refl, sym, ap, ap₂, _∙_, subst}
 use mathlib.Core.Logic.{_⊎_, inl, inr}
 use mathlib.Core.Bool.{Bool, true, false, not, cond, _&&_}
-use mathlib.Core.List.{List, [], _∷_, List·Memᴰ·head, List·Memᴰ·tail, List·Memᴰ·cases-cons, List·Memᴰ·not-nil}
+use mathlib.Core.List.{List, [], _∷_, _++_, List·Memᴰ·head, List·Memᴰ·tail, List·Memᴰ·cases-cons, List·Memᴰ·not-nil}
 use Prim.Native.Nat.{ℕ, suc, _≤_, _<_}
 use native.Mathlib.Omega.{arith}
 use lib.ListN.{length}
-use lib.Dec.{T, eqb, ltb}
-use mir.Facts.{or-yes, or-no, eqb-yes, yes-eqb, ltb-yes, ltb-no, yes-ltb}
+use lib.Dec.{T, eqb, ltb, eqb-refl}
+use mir.Facts.{no-ltb, or-yes, or-no, eqb-yes, yes-eqb, ltb-yes, ltb-no, yes-ltb}
 use Rattle.model.specs.Lists.{all, keep}
 use Rattle.model.specs.Sets.{precedes, ascending, put, sort}
-use Rattle.model.proofs.Bools.{and-l, and-r, both, or-l, or-r, decide, cond-yes, cond-no}
+use Rattle.model.proofs.Bools.{and-l, and-r, both, or-l, or-r, decide, cond-yes, cond-no, is-true, is-false}
 use Rattle.model.proofs.Members.{_∈_, all-in, in-all, keep-in}
 
 pub precedes-trans : (x y z : List ℕ) → T (precedes x y) → T (precedes y z) → T (precedes x z)
@@ -61,6 +61,13 @@ precedes-irrefl (a ∷ x) t = go (or-yes (ltb a a) (eqb a a && precedes x x) t) 
     go : T (ltb a a) ⊎ T (eqb a a && precedes x x) → (T (precedes x x) → ⊥) → ⊥
     go (inl h) f = let k : a < a = ltb-yes h in omega arith
     go (inr h) f = f (and-r (eqb a a) (precedes x x) h)
+
+-- a common beginning does not matter
+pub precedes-cancel : (x u v : List ℕ) → precedes (x ++ u) (x ++ v) ≡ precedes u v
+precedes-cancel [] u v = refl
+precedes-cancel (a ∷ x) u v =
+    let h : a ≤ a = omega arith in
+    rw (is-false (ltb a a) (no-ltb h), is-true (eqb a a) (eqb-refl a)) (precedes-cancel x u v)
 
 module _ {A : Type 0} (rank : A → List ℕ) where
   abbrev pub isBefore : A → A → Bool
@@ -154,6 +161,15 @@ module _ {A : Type 0} (rank : A → List ℕ) where
       deeper (inl h) f = List·Memᴰ·head h
       deeper (inr k) f = List·Memᴰ·tail (f k)
 
+  -- what is put in is there
+  put-there-in : ((x y : A) → rank x ≡ rank y → x ≡ y) → (x : A) (l : List A) → x ∈ put rank x l
+  put-there-in inj x [] = List·Memᴰ·head refl
+  put-there-in inj x (y ∷ l) =
+      three x y l
+      (λ t. rw (put-after x y l t) (List·Memᴰ·tail (put-there-in inj x l)))
+      (λ s t. rw (put-here x y l s t) (List·Memᴰ·head refl))
+      (λ s t. rw (put-there x y l s t) (List·Memᴰ·head (inj x y (precedes-total (rank x) (rank y) t s))))
+
   -- no member has x's rank
   abbrev pub Fresh : A → List A → Type 0
   Fresh x l = (y : A) → y ∈ l → rank x ≡ rank y → ⊥
@@ -225,3 +241,29 @@ module _ {A : Type 0} (rank : A → List ℕ) where
       up : (x : A) → x ∈ qs → (x ≡ p) ⊎ (x ∈ ps) → x ∈ ps
       up x m (inl h) = absurd (precedes-irrefl (rank q) (subst (λ y. T (isBefore q y)) (h ∙ e) (under-q x m)))
       up x m (inr h) = h
+
+  -- an ascending list is determined by its members
+  pub ascending-unique : (ps qs : List A) → T (ascending rank ps) → T (ascending rank qs)
+      → ((x : A) → x ∈ ps → x ∈ qs) → ((x : A) → x ∈ qs → x ∈ ps) → ps ≡ qs
+  ascending-unique ps qs s t f g = sorted-unique ps qs (ascending-sorted ps s) (ascending-sorted qs t) f g
+
+  pub ascending-sort : (l : List A) → T (ascending rank (sort rank l))
+  ascending-sort l = sorted-ascending (sort rank l) (sorted-sort l)
+
+  -- sorting keeps the members
+  pub sort-in : (l : List A) {z : A} → z ∈ sort rank l → z ∈ l
+  sort-in [] m = m
+  sort-in (x ∷ l) {z} m = go (put-in x (sort rank l) m) (λ (k : z ∈ sort rank l). sort-in l k)
+    where
+      go : (z ≡ x) ⊎ (z ∈ sort rank l) → (z ∈ sort rank l → z ∈ l) → z ∈ x ∷ l
+      go (inl h) f = List·Memᴰ·head h
+      go (inr k) f = List·Memᴰ·tail (f k)
+
+  -- where members of one rank are equal
+  pub in-sort : ((x y : A) → rank x ≡ rank y → x ≡ y) → (l : List A) {z : A} → z ∈ l → z ∈ sort rank l
+  in-sort inj [] m = m
+  in-sort inj (x ∷ l) {z} m = go (List·Memᴰ·cases-cons m) (λ (k : z ∈ l). in-sort inj l k)
+    where
+      go : (z ≡ x) ⊎ (z ∈ l) → (z ∈ l → z ∈ sort rank l) → z ∈ put rank x (sort rank l)
+      go (inl h) f = rw h (put-there-in inj x (sort rank l))
+      go (inr k) f = in-put x (sort rank l) (f k)

@@ -9,17 +9,21 @@ use lib.ListN.{length, take, drop, replicate, length-append, length-map}
 use lib.Seq.{take-at, drop-at, drop-drop}
 use lib.Dec.{T, eqb, leb}
 use mir.Facts.{eqb-yes, leb-yes, yes-eqb, yes-leb}
-use Rattle.model.specs.Lists.{all, gather, range, isByte, zeros, sameBytes, between, pad}
+use Rattle.model.specs.Lists.{all, gather, range, isByte, allZero, between, pad}
 use Rattle.model.specs.Sets.{ascending}
 use Rattle.model.specs.Path.{Step, keys}
-use Rattle.model.specs.Element.{Element, validElement, closed, validSetBy}
+use Rattle.model.specs.Element.{Element, validElement, closed}
 use Rattle.model.specs.Slot.{slotSize, slotBytes, readSlot, unusedZero}
 use Rattle.model.specs.Partition.{slotsAt, partitionSize, layout, count, slotStart, slotAt, slots, readPartition, wellFormedBy}
 use Rattle.model.proofs.Bools.{and-l, and-r, both, same-test}
-use Rattle.model.proofs.Lists.{sameBytes-eq, sameBytes-refl, all-take, all-drop, length-pad, pad-short, Bytes, bytes-one, bytes-append, bytes-pad, length-between, between-none, between-one, between-all, joins, zeros-behind, pad-between, length-range}
+use Rattle.model.proofs.Lists.{sameBytes, sameBytes-eq, sameBytes-refl, all-take, all-drop, length-pad, pad-short, Bytes, bytes-one, bytes-append, bytes-pad, length-between, between-none, between-one, between-all, joins, zeros-behind, pad-between, length-range}
 use Rattle.model.proofs.Slots.{valid-fits, length-slot, read-slot, slot-forth, slot-unused, slot-bytes}
 
 -- ---- well-formedness and validity, fact by fact
+
+-- a set that partition n may hold, in the order of a key
+unfoldable pub validSetBy : (Step → List ℕ) → ℕ → List Element → Bool
+validSetBy k n es = leb (length es) 32 && all (validElement n) es && ascending (λ e. keys k (e .path)) es && closed n es
 
 pub record WellFormed (k : Step → List ℕ) (n : ℕ) (b : List ℕ) : Type 0 where
   pub size : length b ≡ partitionSize
@@ -28,8 +32,8 @@ pub record WellFormed (k : Step → List ℕ) (n : ℕ) (b : List ℕ) : Type 0 
   pub valid : T (all (validElement n) (readPartition b))
   pub unused : T (all unusedZero (slots b))
   pub ascends : T (ascending (λ e. keys k (e .path)) (readPartition b))
-  pub spare : T (zeros (between (slotStart (count b)) partitionSize b))
-  pub head : T (zeros (between 1 slotsAt b))
+  pub spare : T (allZero (between (slotStart (count b)) partitionSize b))
+  pub head : T (allZero (between 1 slotsAt b))
   pub closes : T (closed n (readPartition b))
 
 pub record ValidSet (k : Step → List ℕ) (n : ℕ) (es : List Element) : Type 0 where
@@ -63,8 +67,8 @@ module _ (k : Step → List ℕ) (n : ℕ) where
       let valid : T (all (validElement n) (readPartition b)) = f .valid in
       let unused : T (all unusedZero (slots b)) = f .unused in
       let ascends : T (ascending (λ e. keys k (e .path)) (readPartition b)) = f .ascends in
-      let spare : T (zeros (between (slotStart (count b)) partitionSize b)) = f .spare in
-      let head : T (zeros (between 1 slotsAt b)) = f .head in
+      let spare : T (allZero (between (slotStart (count b)) partitionSize b)) = f .spare in
+      let head : T (allZero (between 1 slotsAt b)) = f .head in
       let closes : T (closed n (readPartition b)) = f .closes in
       search both depth 9
 
@@ -95,14 +99,14 @@ module _ (es : List Element) where
   length-layout = ap (λ (n : ℕ). suc (suc (suc (suc n)))) (length-pad 1280 (gather slotBytes es))
 
   pub count-layout : count (layout es) ≡ length es
-  unfolding layout pad count
+  unfolding layout pad
   count-layout = refl
 
   at-slots : drop slotsAt (layout es) ≡ pad 1280 (gather slotBytes es)
   unfolding layout pad
   at-slots = refl
 
-length-slots : (es : List Element) → length (gather slotBytes es) ≡ slotSize * length es
+pub length-slots : (es : List Element) → length (gather slotBytes es) ≡ slotSize * length es
 length-slots [] = refl
 length-slots (e ∷ es) =
     let h : length (gather slotBytes es) ≡ slotSize * length es = length-slots es in
@@ -111,7 +115,6 @@ length-slots (e ∷ es) =
 -- the slots that begin at slot i's place
 read-slots : (b : List ℕ) (es : List Element) (i : ℕ) (z : List ℕ) → drop (slotStart i) b ≡ gather slotBytes es ++ z
     → range (slotAt b) i (length es) ≡ map slotBytes es
-unfolding slotAt
 read-slots b [] i z h = refl
 read-slots b (e ∷ es) i z h =
     let g : drop (slotStart i) b ≡ slotBytes e ++ (gather slotBytes es ++ z) = h ∙ append-assoc (slotBytes e) (gather slotBytes es) z in
@@ -187,7 +190,6 @@ module _ (k : Step → List ℕ) (n : ℕ) (es : List Element) (f : ValidSet k n
 module _ (n : ℕ) (b : List ℕ) (bytes : T (all isByte b)) where
   one-forth : (i : ℕ) → slotStart i + slotSize ≤ length b → T (validElement n (readSlot (slotAt b i))) → T (unusedZero (slotAt b i))
       → slotBytes (readSlot (slotAt b i)) ≡ slotAt b i
-  unfolding slotAt
   one-forth i h v u =
       slot-forth (slotAt b i) (length-between (slotStart i) (slotStart i + slotSize) b (omega arith) h ∙ omega arith)
       (all-take isByte (slotStart i + slotSize - slotStart i) (drop (slotStart i) b) (all-drop isByte (slotStart i) b bytes))
@@ -195,7 +197,6 @@ module _ (n : ℕ) (b : List ℕ) (bytes : T (all isByte b)) where
 
   slots-forth : (c i : ℕ) → slotStart (i + c) ≤ length b → T (all (validElement n) (map readSlot (range (slotAt b) i c)))
       → T (all unusedZero (range (slotAt b) i c)) → gather slotBytes (map readSlot (range (slotAt b) i c)) ≡ between (slotStart i) (slotStart (i + c)) b
-  unfolding slotAt
   slots-forth zero i h v u = sym (between-none (slotStart i) (slotStart (i + 0)) b (omega arith))
   slots-forth (suc c) i h v u =
       let x : Element = readSlot (slotAt b i) in
@@ -216,7 +217,7 @@ module _ (k : Step → List ℕ) (n : ℕ) (b : List ℕ) (f : WellFormed k n b)
 
   -- a well-formed partition is the layout of what is read from it
   pub layout-read : layout (readPartition b) ≡ b
-  unfolding layout pad readPartition slots count
+  unfolding layout pad readPartition slots
   layout-read =
       let c : count b ≤ 32 = f .few in
       let z : length b ≡ 1284 = f .size in

@@ -12,21 +12,21 @@ use mir.Facts.{or-no, eqb-yes, yes-eqb, ltb-no, T-not}
 use Rattle.model.specs.Sets.{precedes}
 use Rattle.model.specs.Label.{isLabel, dominates}
 use Rattle.model.specs.Path.{Step, sameStep, samePath, isPrefix, prefixes, parent, endsIn, labelsAscend, key, keys}
-use Rattle.model.proofs.Bools.{and-l, and-r, both, or-r}
+use Rattle.model.proofs.Bools.{and-l, and-r, both}
 use Rattle.model.proofs.Members.{_∈_, map-in, in-map}
 use Rattle.model.proofs.Dominance.{dominates-refl, dominates-trans}
-use Rattle.model.proofs.Order.{precedes-total}
+use Rattle.model.proofs.Order.{precedes-total, precedes-cancel}
 
 -- ---- equality and prefixes
 
-step-eq : (a b : Step) → T (sameStep a b) → a ≡ b
+pub step-eq : (a b : Step) → T (sameStep a b) → a ≡ b
 unfolding sameStep
 step-eq a b t =
     let n : a .name ≡ b .name = eqb-yes (search (and-l, and-r)) in
     let l : a .label ≡ b .label = eqb-yes (search (and-l, and-r)) in
     λ i. record { name = n i; label = l i }
 
-step-refl : (a : Step) → T (sameStep a a)
+pub step-refl : (a : Step) → T (sameStep a a)
 unfolding sameStep
 step-refl a = both (eqb (a .name) (a .name)) (eqb (a .label) (a .label)) (eqb-refl (a .name)) (eqb-refl (a .label))
 
@@ -147,13 +147,6 @@ before-filled : (x r : List ℕ) → 0 < length x → T (precedes [] (x ++ r))
 before-filled [] r h = absurd (omega arith)
 before-filled (a ∷ x) r h = tt
 
--- a common beginning does not matter
-before-both : (x u v : List ℕ) → T (precedes u v) → T (precedes (x ++ u) (x ++ v))
-before-both [] u v t = t
-before-both (a ∷ x) u v t =
-    or-r (ltb a a) (eqb a a && precedes (x ++ u) (x ++ v))
-    (both (eqb a a) (precedes (x ++ u) (x ++ v)) (eqb-refl a) (before-both x u v t))
-
 -- a list that is not before one nor after another with the same beginning has that beginning
 squeezed : (x y u v w : List ℕ) → length x ≡ length y → T (not (precedes (y ++ v) (x ++ u))) → T (not (precedes (x ++ w) (y ++ v)))
     → (x ≡ y) × T (not (precedes v u)) × T (not (precedes w v))
@@ -202,7 +195,7 @@ module _ (k : Step → List ℕ) (good : Keyed k) where
   prefix-first (a ∷ p) (b ∷ q) t d =
       let e : a ≡ b = step-eq a b (and-l (sameStep a b) (isPrefix p q) t) in
       rw (← e)
-      (before-both (k a) (keys k p) (keys k q)
+      (rw (precedes-cancel (k a) (keys k p) (keys k q))
       (prefix-first p q (and-r (sameStep a b) (isPrefix p q) t) (λ h. d (ap₂ (λ (x : Step) (y : List Step). x ∷ y) e h))))
 
   -- what is neither before a path nor after an extension of it extends it

@@ -4,17 +4,16 @@ use mathlib.Core.Bool.{Bool, true, false, not, cond, _&&_}
 use mathlib.Core.Option.{Option, none, some}
 use mathlib.Core.List.{List, [], _∷_}
 use Prim.Native.Nat.{ℕ}
-use lib.ListN.{length}
-use lib.Dec.{T, eqb, leb, ltb}
+use lib.Dec.{T, eqb}
 use mir.Facts.{eqb-yes}
 use Rattle.model.specs.Lists.{any, gather}
 use Rattle.model.specs.Label.{labels, isLabel, dominates}
-use Rattle.model.specs.Path.{Step, lastStep, bears, endsIn, parent, stepsOf}
-use Rattle.model.specs.Element.{Element, contains, remove}
+use Rattle.model.specs.Path.{Step, lastStep, bears, endsIn, stepsOf}
+use Rattle.model.specs.Element.{Element, contains}
 use Rattle.model.specs.Store.{storeSize}
 use Rattle.model.specs.Model.{Cell, held, isHeld, elements, Model, ownSet, liveBy, live}
 use Rattle.model.specs.View.{visible, reaches, inView, listingOf, listing}
-use Rattle.model.specs.Call.{Op, view, insert, update, delete, Call, callSubject, row, someRaw, callerRows, opRows, table, refusal, done, extending, added, effect, outcomeBy, outcome}
+use Rattle.model.specs.Call.{Op, view, insert, update, delete, Call, callSubject, row, someRaw, callerRows, opRows, table, refusal, effect, outcomeBy, outcome}
 use Rattle.model.proofs.Bools.{cond-yes, not-not}
 use Rattle.model.proofs.Dominance.{dominates-refl}
 use Rattle.model.proofs.Rows.{Passes, passes, passes-back, refusal-behind}
@@ -104,7 +103,7 @@ pub admitted : (c : Call) (m : Model) → refusal (table c m) ≡ none → Admit
 unfolding table
 admitted c m e =
     let p : Passes (table c m) = passes (table c m) e in
-    let q = passes-back (callerRows (c .who)) _ (p .1) in
+    let q = passes-back (callerRows (c .who) (c .op)) _ (p .1) in
     record {
       size = eqb-yes (not-not (eqb (m .size) storeSize) (p .0));
       label = not-not (isLabel (callSubject c)) (q .0);
@@ -117,7 +116,7 @@ module _ (c : Call) (m : Model) where
   unfolding table restrict
   same-table =
       refusal-behind (row 1 _ ∷ []) _ _
-      (λ h1. refusal-behind (callerRows (c .who)) _ _
+      (λ h1. refusal-behind (callerRows (c .who) (c .op)) _ _
       (λ p. refusal-behind (row 2 _ ∷ []) _ _
       (λ h2. rw (← (raw-restrict (callSubject c) m))
       (refusal-behind (row 3 _ ∷ []) _ _ (λ h3. same-op (callSubject c) m (not-not (isLabel (callSubject c)) (h2 .0)) (c .op))))))

@@ -46,7 +46,7 @@ closed-facts n es t e m (a ∷ q) b s =
     over (inl k) = absurd (T-not (endsIn n (a ∷ q)) s k)
     over (inr k) = k
 
-facts-closed : (n : ℕ) (es : List Element) → Closed n es → T (closed n es)
+pub facts-closed : (n : ℕ) (es : List Element) → Closed n es → T (closed n es)
 unfolding closed
 facts-closed n es f =
     in-all (λ e. all (λ p. not (endsIn n p) || contains es p) (prefixes (e .path))) es

@@ -8,7 +8,7 @@ use lib.ListN.{length, take, drop, getD, length-append, length-take, length-drop
 use lib.Seq.{drop-at, drop-drop, take-append-seam}
 use lib.Dec.{T, eqb}
 use mir.Facts.{eqb-yes, leb-yes, ltb-yes, yes-ltb}
-use Rattle.model.specs.Lists.{all, gather, range, isByte, zeros, between, pad}
+use Rattle.model.specs.Lists.{all, gather, range, isByte, allZero, between, pad}
 use Rattle.model.specs.Label.{isLabel}
 use Rattle.model.specs.Path.{Step, validStep, validPath}
 use Rattle.model.specs.Value.{allowed, storable, isPrintable}
@@ -22,7 +22,7 @@ pub record Fits (e : Element) : Type 0 where
   pub steps : length (e .path) ≤ 6
   pub value : length (e .content .value) ≤ 16
 
-allowed-length : (k : ℕ) (v : List ℕ) → T (allowed k v) → length v ≤ 16
+pub allowed-length : (k : ℕ) (v : List ℕ) → T (allowed k v) → length v ≤ 16
 unfolding allowed
 allowed-length zero v t = let h : length v ≡ 0 = eqb-yes t in omega arith
 allowed-length (suc zero) v t = let h : length v ≡ 4 = eqb-yes (and-l (eqb (length v) 4) (all isByte v) t) in omega arith
@@ -39,14 +39,13 @@ valid-fits n e t =
 
 -- ---- what is laid out is read back
 
-length-names : (p : List Step) → length (gather nameBytes p) ≡ 2 * length p
+pub length-names : (p : List Step) → length (gather nameBytes p) ≡ 2 * length p
 length-names [] = refl
 length-names (a ∷ p) = let h : length (gather nameBytes p) ≡ 2 * length p = length-names p in omega arith
 
 -- steps whose bytes begin at step i's places
 read-steps : (b : List ℕ) (p : List Step) (i : ℕ) (x y : List ℕ) → drop (namesAt + 2 * i) b ≡ gather nameBytes p ++ x
     → drop (labelsAt + i) b ≡ map (λ a. a .label) p ++ y → range (stepAt b) i (length p) ≡ p
-unfolding stepAt
 read-steps b [] i x y e f = refl
 read-steps b (a ∷ p) i x y e f =
     let lo : getD b (namesAt + 2 * i) 0 ≡ a .name % 256 = getD-front b (namesAt + 2 * i) _ _ e in
@@ -103,11 +102,9 @@ module _ (e : Element) where
   length-slot = ap length fields ∙ simp (length-append, length-pad)
 
   pub slot-depth : depth (slotBytes e) ≡ length (e .path)
-  unfolding depth
   slot-depth = ap (λ (b : List ℕ). getD b 0 0) fields
 
   pub slot-length : valueLength (slotBytes e) ≡ length (e .content .value)
-  unfolding valueLength
   slot-length = getD-front (slotBytes e) 20 _ _ at-length
 
 module _ (e : Element) (fit : Fits e) where
@@ -157,7 +154,6 @@ byte-lt b i t h = ltb-yes (all-getD isByte b i 0 h t)
 
 names-back : (b : List ℕ) (d i : ℕ) → T (all isByte b) → namesAt + 2 * i + 2 * d ≤ length b
     → gather nameBytes (range (stepAt b) i d) ≡ between (namesAt + 2 * i) (namesAt + 2 * i + 2 * d) b
-unfolding stepAt
 names-back b zero i t h = sym (between-none (namesAt + 2 * i) (namesAt + 2 * i + 2 * 0) b (omega arith))
 names-back b (suc d) i t h =
     let a : ℕ = namesAt + 2 * i in
@@ -175,7 +171,6 @@ names-back b (suc d) i t h =
 
 labels-back : (b : List ℕ) (d i : ℕ) → labelsAt + i + d ≤ length b
     → map (λ (a : Step). a .label) (range (stepAt b) i d) ≡ between (labelsAt + i) (labelsAt + i + d) b
-unfolding stepAt
 labels-back b zero i h = sym (between-none (labelsAt + i) (labelsAt + i + 0) b (omega arith))
 labels-back b (suc d) i h =
     let s1 : suc (labelsAt + i) ≡ labelsAt + suc i = omega arith in
@@ -200,7 +195,7 @@ module _ (b : List ℕ) (size : length b ≡ 40) (bytes : T (all isByte b)) (fit
       omega arith
 
   path-forth : pathBytes (readPath b) ≡ between 0 kindAt b
-  unfolding pathBytes readPath unusedZero pad depth
+  unfolding pathBytes readPath unusedZero pad
   path-forth =
       let d : depth b ≤ 6 = depth-short in
       joins 0 labelsAt kindAt b (omega arith) (omega arith)
@@ -212,7 +207,7 @@ module _ (b : List ℕ) (size : length b ≡ 40) (bytes : T (all isByte b)) (fit
       ∙ pad-between labelsAt (labelsAt + depth b) kindAt b (omega arith) (omega arith) (omega arith) (search (and-l, and-r)))
 
   content-forth : contentBytes (readContent b) ≡ between kindAt slotSize b
-  unfolding contentBytes readContent unusedZero pad valueLength
+  unfolding contentBytes readContent unusedZero pad
   content-forth =
       let h : valueLength b ≤ 16 = length-short in
       let l : length (between valueAt (valueAt + valueLength b) b) ≡ valueLength b =
@@ -240,16 +235,16 @@ module _ (e : Element) (fit : Fits e) where
       let k : length (e .content .value) ≤ 16 = fit .value in
       let ln : length (gather nameBytes (e .path)) ≡ 2 * length (e .path) = length-names (e .path) in
       let ll : length (map (λ (a : Step). a .label) (e .path)) ≡ length (e .path) = length-map (e .path) (λ (a : Step). a .label) in
-      let z1 : T (zeros (between (namesAt + 2 * length (e .path)) labelsAt b)) =
+      let z1 : T (allZero (between (namesAt + 2 * length (e .path)) labelsAt b)) =
       zeros-behind b namesAt (12 - length (gather nameBytes (e .path))) (gather nameBytes (e .path)) _
       (at-names e ∙ pad-append 12 _ _ (names-short e fit)) (namesAt + 2 * length (e .path)) labelsAt (omega arith) (omega arith) in
-      let z2 : T (zeros (between (labelsAt + length (e .path)) kindAt b)) =
+      let z2 : T (allZero (between (labelsAt + length (e .path)) kindAt b)) =
       zeros-behind b labelsAt (6 - length (map (λ (a : Step). a .label) (e .path))) (map (λ (a : Step). a .label) (e .path)) _
       (at-labels e ∙ pad-append 6 _ _ (labels-short e fit)) (labelsAt + length (e .path)) kindAt (omega arith) (omega arith) in
-      let z3 : T (zeros (between (valueAt + length (e .content .value)) spareAt b)) =
+      let z3 : T (allZero (between (valueAt + length (e .content .value)) spareAt b)) =
       zeros-behind b valueAt (16 - length (e .content .value)) (e .content .value) _
       (at-value e ∙ pad-append 16 _ _ k) (valueAt + length (e .content .value)) spareAt (omega arith) (omega arith) in
-      let z4 : T (zeros (between spareAt slotSize b)) = zeros-behind b spareAt 3 [] [] (at-spare e) spareAt slotSize (omega arith) (omega arith) in
+      let z4 : T (allZero (between spareAt slotSize b)) = zeros-behind b spareAt 3 [] [] (at-spare e) spareAt slotSize (omega arith) (omega arith) in
       rw (slot-depth e, slot-length e) (search both)
 
 -- a kind that has values is a byte, and so are the values

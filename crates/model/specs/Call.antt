@@ -3,7 +3,7 @@ use mathlib.Core.Bool.{Bool, not, cond, _&&_, _||_}
 use mathlib.Core.Option.{Option, none, some}
 use mathlib.Core.List.{List, [], _∷_, _++_}
 use Prim.Native.Nat.{ℕ, _%_}
-use lib.ListN.{length, drop}
+use lib.ListN.{length}
 use lib.Dec.{eqb, leb, ltb}
 use Rattle.model.specs.Lists.{any, keep}
 use Rattle.model.specs.Sets.{put}
@@ -41,7 +41,7 @@ callSubject c = subjectOf (c .who)
 pub data Row : Type 0 where
   row : (number : ℕ) (applies : Bool) → Row
 
--- a path as the writing calls take it
+-- a path of one to six steps, as bytes
 unfoldable pub goodPath : List ℕ → Bool
 goodPath p = eqb (length p % 3) 0 && validPath (stepsOf p)
 
@@ -50,8 +50,8 @@ unfoldable pub someRaw : ℕ → Model → Bool
 someRaw s m = any (λ n. dominates s n && not (isHeld (m .cell n))) labels
 
 -- the rows that the caller adds after row 1; a bare subject adds none
-unfoldable pub callerRows : Caller → List Row
-callerRows (subject s) = []
+unfoldable pub callerRows : Caller → Op → List Row
+callerRows (subject s) o = []
 
 -- a delete's conditions behind the path's: the last label is the subject's, and the element is live
 abbrev pub ownLiveRows : ℕ → Model → List Step → List Row
@@ -81,7 +81,7 @@ opRows (delete p) s m = row 4 (not (goodPath p)) ∷ ownLiveRows s m (stepsOf p)
 unfoldable pub table : Call → Model → List Row
 table c m =
     row 1 (not (eqb (m .size) storeSize))
-    ∷ (callerRows (c .who)
+    ∷ (callerRows (c .who) (c .op)
     ++ (row 2 (not (isLabel (callSubject c)))
     ∷ row 3 (someRaw (callSubject c) m)
     ∷ opRows (c .op) (callSubject c) m))
@@ -135,7 +135,3 @@ outcome c m = outcomeBy (refusal (table c m)) c m
 -- the model after a call
 unfoldable pub after : Call → Model → Model
 after c m = withSet (callSubject c) (outcome c m .change) m
-
--- what an output holds after a call wrote to it: the bytes after those written keep their contents
-unfoldable pub outputAfter : List ℕ → List ℕ → List ℕ
-outputAfter written output = written ++ drop (length written) output

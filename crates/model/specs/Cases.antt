@@ -14,39 +14,39 @@ use Rattle.model.specs.Partition.{partitionSize}
 use Rattle.model.specs.Store.{partition, emptyStore}
 use Rattle.model.specs.Text.{ascii}
 use Rattle.model.specs.Call.{subject, Op, view, insert, update, delete, Call, Answer}
-use Rattle.model.specs.Run.{answerOf, storeAfter, call, run}
+use Rattle.model.specs.Run.{answerOf, storeAfter, call, corrupted, run}
 use Rattle.model.specs.Script.{lentPath, Prints}
 
 -- ---- what a row says
 
--- a partition's bytes, the rest being zero
-pub data Left : Type 0 where
-  left : (label : ℕ) (bytes : List ℕ) → Left
+-- a partition holds these bytes, and zeros behind them
+pub data Expected : Type 0 where
+  holds : (label : ℕ) (bytes : List ℕ) → Expected
 
 pub data Case : Type 0 where
   -- l dominates m, or not
-  dominance : (l m : ℕ) (holds : Bool) → Case
+  dominance : (l m : ℕ) (yes : Bool) → Case
   -- a call on a store
-  lent : (store : List ℕ) (last : Call) (answer : Answer) → Case
+  onStore : (store : List ℕ) (last : Call) (answer : Answer) → Case
   -- a call on the empty store after other calls: its answer, and partitions afterwards
-  calls : (before : List Call) (last : Call) (answer : Answer) (partitions : List Left) → Case
+  calls : (before : List Call) (last : Call) (answer : Answer) (partitions : List Expected) → Case
   -- what the runner prints for an input
   script : (input : String) (output : String) → Case
 
 abbrev pub storeAfterAll : List Call → List ℕ
 storeAfterAll cs = run (map call cs) emptyStore
 
-abbrev pub AllLeft : List Left → List ℕ → Type 0
-AllLeft [] s = Unit {0}
-AllLeft (left n x ∷ ls) s = (partition n s ≡ pad partitionSize x) × AllLeft ls s
+abbrev pub AllHeld : List Expected → List ℕ → Type 0
+AllHeld [] s = Unit {0}
+AllHeld (holds n x ∷ ls) s = (partition n s ≡ pad partitionSize x) × AllHeld ls s
 
 abbrev pub Holds : Case → Type 0
 Holds (dominance l m b) = dominates l m ≡ b
-Holds (lent s c a) = answerOf c s ≡ a
-Holds (calls cs c a ls) = (answerOf c (storeAfterAll cs) ≡ a) × AllLeft ls (storeAfter c (storeAfterAll cs))
+Holds (onStore s c a) = answerOf c s ≡ a
+Holds (calls cs c a ls) = (answerOf c (storeAfterAll cs) ≡ a) × AllHeld ls (storeAfter c (storeAfterAll cs))
 Holds (script i o) = Prints (ascii i) (ascii o)
 
--- ---- words for the rows
+-- ---- names for the rows
 
 abbrev by : ℕ → Op → Call
 by s o = record { who = subject s; op = o }
@@ -164,13 +164,13 @@ markedCases =
     ∷ dominance 9 16 false
     ∷ calls [] (by 31 (view [] 16384)) (printed 10 "VIEW\t31\t0\n") []
     ∷ calls [] insert10 (counted 0)
-    (left 0 ((1 ∷ 0 ∷ 0 ∷ 0 ∷ []) ++ slot 1 (10 ∷ zeros 11) (zeros 6) 0 0 (zeros 19)) ∷ left 16 [] ∷ [])
+    (holds 0 ((1 ∷ 0 ∷ 0 ∷ 0 ∷ []) ++ slot 1 (10 ∷ zeros 11) (zeros 6) 0 0 (zeros 19)) ∷ holds 16 [] ∷ [])
     ∷ calls (insert10 ∷ []) insert10 (refusedBy 8) []
     ∷ calls (insert10 ∷ []) higher10 (counted 0) []
     ∷ calls (insert10 ∷ []) (by 16 (delete p10)) (refusedBy 6) []
     ∷ calls (insert10 ∷ higher10 ∷ []) (by 0 (view (path (step 10 16 ∷ [])) 16384)) (refusedBy 7) []
     ∷ calls [] (by 16 (insert (path (step 10 16 ∷ step 20 9 ∷ [])) group)) (refusedBy 4) []
-    ∷ lent [] (by 40 (view [] 16384)) (refusedBy 1)
+    ∷ onStore [] (by 40 (view [] 16384)) (refusedBy 1)
     ∷ calls listingCalls sleeve (counted 0) []
     ∷ calls (listingCalls ++ (sleeve ∷ [])) (by 16 (view [] 16384))
     (printed 45 "VIEW\t16\t2\n1\t10\t0\tP\tT\tSLEEVE\n2\t20\t16\tP\tM\t-150\n") []
@@ -186,7 +186,7 @@ furtherCases =
     ∷ calls (higher10 ∷ []) insert10 (counted 0) []
     -- an update under a removed parent
     ∷ calls listingCalls (by 16 (update p20 (measure 7 0 0 0))) (counted 1)
-    (left 16 ((1 ∷ 0 ∷ 0 ∷ 0 ∷ []) ++ slot 2 (10 ∷ 0 ∷ 20 ∷ zeros 9) (0 ∷ 16 ∷ zeros 4) 1 4 (7 ∷ zeros 18)) ∷ left 0 [] ∷ [])
+    (holds 16 ((1 ∷ 0 ∷ 0 ∷ 0 ∷ []) ++ slot 2 (10 ∷ 0 ∷ 20 ∷ zeros 9) (0 ∷ 16 ∷ zeros 4) 1 4 (7 ∷ zeros 18)) ∷ holds 0 [] ∷ [])
     -- an update of an element with two more of its label below, and the view after it
     ∷ calls nested updateTop (counted 3) []
     ∷ calls (nested ++ (updateTop ∷ [])) (by 0 (view [] 16384)) (printed 21 "VIEW\t0\t1\n1\t1\t0\tP\tT\tA\n") []
@@ -198,9 +198,29 @@ furtherCases =
     ∷ calls full (by 16 (insert (path (step 33 16 ∷ [])) group)) (counted 0) []
     -- a delete with elements of its label and a higher one below, and the view after it
     ∷ calls nested deleteTop (counted 3)
-    (left 0 [] ∷ left 16 ((1 ∷ 0 ∷ 0 ∷ 0 ∷ []) ++ slot 3 (1 ∷ 0 ∷ 2 ∷ 0 ∷ 4 ∷ zeros 7) (0 ∷ 0 ∷ 16 ∷ zeros 3) 0 0 (zeros 19)) ∷ [])
+    (holds 0 [] ∷ holds 16 ((1 ∷ 0 ∷ 0 ∷ 0 ∷ []) ++ slot 3 (1 ∷ 0 ∷ 2 ∷ 0 ∷ 4 ∷ zeros 7) (0 ∷ 0 ∷ 16 ∷ zeros 3) 0 0 (zeros 19)) ∷ [])
     ∷ calls (nested ++ (deleteTop ∷ [])) (by 16 (view [] 16384))
     (printed 47 "VIEW\t16\t3\n1\t1\t0\tR\t-\t-\n2\t2\t0\tR\t-\t-\n3\t4\t16\tP\tG\t-\n") []
+    -- a view of a path below the root; its length is looked at after the path
+    ∷ calls listingCalls (by 16 (view p20 16384)) (printed 27 "VIEW\t16\t1\n2\t20\t16\tP\tM\t-150\n") []
+    ∷ calls listingCalls (by 16 (view p20 26)) (refusedBy 10) []
+    ∷ calls [] (by 16 (view p20 0)) (refusedBy 7) []
+    -- what is not live, or has no parent in view
+    ∷ calls [] (by 0 (delete p10)) (refusedBy 7) []
+    ∷ calls [] (by 0 (update p10 group)) (refusedBy 7) []
+    ∷ calls [] (by 16 (insert p20 group)) (refusedBy 7) []
+    -- bytes that are no path: a byte too many, no name, no step, seven steps
+    ∷ calls [] (by 0 (insert (10 ∷ 0 ∷ 0 ∷ 1 ∷ []) group)) (refusedBy 4) []
+    ∷ calls [] (by 0 (insert (0 ∷ 0 ∷ 0 ∷ []) group)) (refusedBy 4) []
+    ∷ calls [] (by 0 (insert [] group)) (refusedBy 4) []
+    ∷ calls deep (by 31 (insert (path (five ++ (step 6 31 ∷ step 7 31 ∷ []))) group)) (refusedBy 4) []
+    -- the smallest measure
+    ∷ calls (by 0 (insert p10 (measure 0 0 0 128)) ∷ []) (by 0 (view [] 16384)) (printed 32 "VIEW\t0\t1\n1\t10\t0\tP\tM\t-2147483648\n") []
+    -- a slot that a delete frees
+    ∷ calls (full ++ (by 0 (delete (path (step 5 0 ∷ []))) ∷ [])) (numbered 33) (counted 0) []
+    -- a partition that is not well formed: the subjects that dominate it are refused, no others
+    ∷ onStore (corrupted 0 (33 ∷ []) emptyStore) (by 16 (view [] 16384)) (refusedBy 3)
+    ∷ onStore (corrupted 16 (33 ∷ []) emptyStore) (by 0 (view [] 16384)) (printed 9 "VIEW\t0\t0\n")
     -- the versions of a name stand together, by their labels
     ∷ calls (numbered 11 ∷ higher10 ∷ insert10 ∷ []) (by 16 (view [] 16384))
     (printed 50 "VIEW\t16\t3\n1\t10\t0\tP\tG\t-\n1\t10\t16\tP\tG\t-\n1\t11\t0\tP\tG\t-\n") []
@@ -209,15 +229,19 @@ furtherCases =
     (printed 51 "VIEW\t0\t3\n1\t255\t0\tP\tG\t-\n1\t256\t0\tP\tG\t-\n1\t257\t0\tP\tG\t-\n") []
     -- six steps, a name of two bytes, and an element of each kind, byte for byte
     ∷ calls deep (by 31 (insert (sixth 8) (text "AB"))) (counted 0)
-    (left 31
+    (holds 31
     ((3 ∷ 0 ∷ 0 ∷ 0 ∷ [])
     ++ deepSlot 6 0 0 (zeros 19)
     ++ deepSlot 7 1 4 (106 ∷ 255 ∷ 255 ∷ 255 ∷ zeros 15)
     ++ deepSlot 8 2 2 (65 ∷ 66 ∷ zeros 17)) ∷ [])
-    -- document 01's script, with lines that do not read and a last one without its end
+    -- document 01's script
     ∷ script
-    "0\tI\t10:0\tG\t-\n16\tI\t10:0/20:16\tM\t-150\n0\tD\t10:0\n0\tV\t/\n16\tV\t/\n\n16\tV\t/ \n40\tV\t/\n256\tV\t/\n0\tI\t7:0\tT\t\n16\tV\t10:0"
-    "A\t0\t0\nA\t0\t0\nA\t0\t1\nVIEW\t0\t0\nA\t0\t9\nVIEW\t16\t2\n1\t10\t0\tR\t-\t-\n2\t20\t16\tP\tM\t-150\nA\t0\t40\nA\t?\t0\nA\t?\t0\nA\t2\t0\nA\t?\t0\nA\t5\t0\nVIEW\t16\t2\n1\t10\t0\tR\t-\t-\n2\t20\t16\tP\tM\t-150\nA\t0\t40\n"
+    "0\tI\t10:0\tG\t-\n16\tI\t10:0/20:16\tM\t-150\n0\tD\t10:0\n0\tV\t/\n16\tV\t/\n"
+    "A\t0\t0\nA\t0\t0\nA\t0\t1\nVIEW\t0\t0\nA\t0\t9\nVIEW\t16\t2\n1\t10\t0\tR\t-\t-\n2\t20\t16\tP\tM\t-150\nA\t0\t40\n"
+    -- lines that read and are refused, and others that do not read; the last has no end
+    ∷ script
+    "255\tV\t/\n256\tV\t/\n0\tI\t65535:0\tT\t\n0\tI\t65536:0\tT\tA\n0\tV\t0:255\n0\tV\t1:256\n\n0\tV\t/ \n00\tV\t/\n0\tD\t7:0"
+    "A\t2\t0\nA\t?\t0\nA\t5\t0\nA\t?\t0\nA\t4\t0\nA\t?\t0\nA\t?\t0\nA\t?\t0\nA\t?\t0\nA\t7\t0\n"
     ∷ []
 
 unfoldable pub cases : List Case

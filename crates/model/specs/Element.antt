@@ -2,11 +2,8 @@
 use mathlib.Core.Bool.{Bool, not, _&&_, _||_}
 use mathlib.Core.List.{List}
 use Prim.Native.Nat.{ℕ}
-use lib.ListN.{length}
-use lib.Dec.{leb}
 use Rattle.model.specs.Lists.{all, any, keep}
-use Rattle.model.specs.Sets.{ascending}
-use Rattle.model.specs.Path.{Step, samePath, isPrefix, prefixes, endsIn, validPath, key, keys, pathRank}
+use Rattle.model.specs.Path.{Step, samePath, isPrefix, prefixes, endsIn, validPath, pathRank}
 use Rattle.model.specs.Value.{Content, storable}
 
 pub record Element : Type 0 where
@@ -28,13 +25,6 @@ contains es p = any (λ e. samePath p (e .path)) es
 -- each prefix that ends in label n has its own element in the set
 unfoldable pub closed : ℕ → List Element → Bool
 closed n es = all (λ e. all (λ p. not (endsIn n p) || contains es p) (prefixes (e .path))) es
-
--- a set that partition n may hold, in the order of a key
-unfoldable pub validSetBy : (Step → List ℕ) → ℕ → List Element → Bool
-validSetBy k n es = leb (length es) 32 && all (validElement n) es && ascending (λ e. keys k (e .path)) es && closed n es
-
-abbrev pub validSet : ℕ → List Element → Bool
-validSet n es = validSetBy key n es
 
 -- the set without the path and all that extends it
 unfoldable pub remove : List Step → List Element → List Element

@@ -1,4 +1,4 @@
--- Words on lists that the sections use: tests over the members, parts, fixed widths and joined fields.
+-- Lists: tests over the members, parts, fixed widths and joined fields.
 use mathlib.Core.Bool.{Bool, true, false, cond, _&&_, _||_}
 use mathlib.Core.List.{List, [], _∷_, _++_}
 use Prim.Native.Nat.{ℕ, zero, suc, _-_}
@@ -36,15 +36,8 @@ unfoldable pub isByte : ℕ → Bool
 isByte x = ltb x 256
 
 -- all zero
-abbrev pub zeros : List ℕ → Bool
-zeros l = all (λ x. eqb x 0) l
-
--- the same numbers in the same order
-abbrev pub sameBytes : List ℕ → List ℕ → Bool
-sameBytes [] [] = true
-sameBytes [] (y ∷ m) = false
-sameBytes (x ∷ l) [] = false
-sameBytes (x ∷ l) (y ∷ m) = eqb x y && sameBytes l m
+abbrev pub allZero : List ℕ → Bool
+allZero l = all (λ x. eqb x 0) l
 
 -- members a to e - 1 of a list
 abbrev pub between : {A : Type 0} → ℕ → ℕ → List A → List A

@@ -4,7 +4,7 @@ use mathlib.Core.List.{List, [], _∷_, _++_, map}
 use Prim.Native.Nat.{ℕ, _+_, _*_}
 use lib.ListN.{length, getD}
 use lib.Dec.{eqb, leb}
-use Rattle.model.specs.Lists.{all, gather, range, isByte, zeros, between}
+use Rattle.model.specs.Lists.{all, gather, range, isByte, allZero, between}
 use Rattle.model.specs.Sets.{ascending}
 use Rattle.model.specs.Path.{Step, key, keys}
 use Rattle.model.specs.Element.{Element, validElement, closed}
@@ -30,14 +30,14 @@ layout es =
 
 -- ---- and read
 
-unfoldable pub count : List ℕ → ℕ
+abbrev pub count : List ℕ → ℕ
 count b = getD b countAt 0
 
 -- where slot i begins
 abbrev pub slotStart : ℕ → ℕ
 slotStart i = slotsAt + slotSize * i
 
-unfoldable pub slotAt : List ℕ → ℕ → List ℕ
+abbrev pub slotAt : List ℕ → ℕ → List ℕ
 slotAt b i = between (slotStart i) (slotStart i + slotSize) b
 
 -- the slots that the count says are used
@@ -57,8 +57,8 @@ wellFormedBy k n b =
     && all (validElement n) (readPartition b)
     && all unusedZero (slots b)
     && ascending (λ e. keys k (e .path)) (readPartition b)
-    && zeros (between (slotStart (count b)) partitionSize b)
-    && zeros (between 1 slotsAt b)
+    && allZero (between (slotStart (count b)) partitionSize b)
+    && allZero (between 1 slotsAt b)
     && closed n (readPartition b)
 
 abbrev pub wellFormed : ℕ → List ℕ → Bool

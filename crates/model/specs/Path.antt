@@ -64,7 +64,7 @@ labelsAscend [] = true
 labelsAscend (a ∷ []) = true
 labelsAscend (a ∷ b ∷ p) = dominates (b .label) (a .label) && labelsAscend (b ∷ p)
 
--- one to six steps
+-- one to six valid steps with ascending labels
 unfoldable pub validPath : List Step → Bool
 validPath p = leb 1 (length p) && leb (length p) 6 && all validStep p && labelsAscend p
 
@@ -78,7 +78,7 @@ stepsOf (lo ∷ hi ∷ l ∷ p) = record { name = lo + 256 * hi; label = l } ∷
 
 -- ---- path order: step by step by a key; a prefix comes before its extensions
 
--- the name first and then the label number
+-- the name first and then the label number. Different steps must have different keys, and all keys one length (`Keyed`)
 unfoldable pub key : Step → List ℕ
 key a = a .name ∷ a .label ∷ []
 

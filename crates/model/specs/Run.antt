@@ -2,9 +2,9 @@
 use mathlib.Core.Path.{_≡_}
 use mathlib.Core.Bool.{Bool, true, not, cond, _&&_, _||_}
 use mathlib.Core.Option.{Option, none, some}
-use mathlib.Core.List.{List, [], _∷_}
+use mathlib.Core.List.{List, [], _∷_, _++_}
 use Prim.Native.Nat.{ℕ}
-use lib.ListN.{length}
+use lib.ListN.{length, drop}
 use lib.Dec.{T}
 use Rattle.model.specs.Lists.{pad}
 use Rattle.model.specs.Label.{isLabel, dominates}
@@ -26,6 +26,10 @@ writeSet n (some es) s = replace n (layout es) s
 
 unfoldable pub storeAfter : Call → List ℕ → List ℕ
 storeAfter c s = writeSet (callSubject c) (outcome c (openModel s) .change) s
+
+-- the output after a call: the bytes after those written keep their contents
+unfoldable pub outputAfter : Call → (store output : List ℕ) → List ℕ
+outputAfter c s o = answerOf c s .written ++ drop (length (answerOf c s .written)) o
 
 -- ---- a run: calls, and corruption (document 01: damage), any bytes that come onto a partition
 

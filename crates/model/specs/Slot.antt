@@ -3,7 +3,7 @@ use mathlib.Core.Bool.{Bool, _&&_}
 use mathlib.Core.List.{List, [], _∷_, _++_, map}
 use Prim.Native.Nat.{ℕ, _+_, _-_, _*_, _/_, _%_}
 use lib.ListN.{length, getD}
-use Rattle.model.specs.Lists.{gather, range, zeros, between, pad}
+use Rattle.model.specs.Lists.{gather, range, allZero, between, pad}
 use Rattle.model.specs.Path.{Step}
 use Rattle.model.specs.Value.{Content}
 use Rattle.model.specs.Element.{Element}
@@ -68,13 +68,13 @@ slotBytes e = pathBytes (e .path) ++ contentBytes (e .content)
 
 -- ---- and read
 
-unfoldable pub depth : List ℕ → ℕ
+abbrev pub depth : List ℕ → ℕ
 depth b = getD b depthAt 0
 
-unfoldable pub stepAt : List ℕ → ℕ → Step
+abbrev pub stepAt : List ℕ → ℕ → Step
 stepAt b i = record { name = getD b (namesAt + 2 * i) 0 + 256 * getD b (namesAt + 2 * i + 1) 0; label = getD b (labelsAt + i) 0 }
 
-unfoldable pub valueLength : List ℕ → ℕ
+abbrev pub valueLength : List ℕ → ℕ
 valueLength b = getD b lengthAt 0
 
 unfoldable pub readPath : List ℕ → List Step
@@ -89,7 +89,7 @@ readSlot b = record { path = readPath b; content = readContent b }
 -- the bytes for steps and value that are not used, and the last three, are zero
 unfoldable pub unusedZero : List ℕ → Bool
 unusedZero b =
-    zeros (between (namesAt + 2 * depth b) labelsAt b)
-    && zeros (between (labelsAt + depth b) kindAt b)
-    && zeros (between (valueAt + valueLength b) spareAt b)
-    && zeros (between spareAt slotSize b)
+    allZero (between (namesAt + 2 * depth b) labelsAt b)
+    && allZero (between (labelsAt + depth b) kindAt b)
+    && allZero (between (valueAt + valueLength b) spareAt b)
+    && allZero (between spareAt slotSize b)

@@ -22,7 +22,7 @@ digits (suc f) n = let more = digits f (n / 10) ++ ((48 + n % 10) ∷ []) in con
 unfoldable pub decimal : ℕ → List ℕ
 decimal n = digits (suc n) n
 
--- a measure's four bytes, lowest first, as a number of 32 bits
+-- a measure's four bytes, lowest first, as a number of 32 bits; it counts hundredths of a millimetre
 unfoldable pub measureOf : List ℕ → ℕ
 measureOf v = getD v 0 0 + 256 * getD v 1 0 + 65536 * getD v 2 0 + 16777216 * getD v 3 0
 

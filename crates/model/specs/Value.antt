@@ -25,6 +25,6 @@ allowed (suc (suc (suc k))) v = false
 unfoldable pub storable : Content → Bool
 storable c = allowed (c .kind) (c .value)
 
--- what a call may bring
+-- the kind and value that a call may bring (row 5)
 unfoldable pub bringable : Content → Bool
 bringable c = allowed (c .kind) (c .value)

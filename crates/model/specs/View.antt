@@ -26,7 +26,7 @@ reaches v (a ∷ p) = any (λ e. isPrefix (a ∷ p) (e .path)) v
 unfoldable pub inView : ℕ → Model → List Step → Bool
 inView s m p = reaches (visible s m) p
 
--- removed: in view but not live
+-- removed: in view but not live; the listing marks such a path R (`shown-removed`)
 unfoldable pub removed : ℕ → Model → List Step → Bool
 removed s m p = inView s m p && not (live m p)
 

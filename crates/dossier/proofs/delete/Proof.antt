@@ -1,0 +1,21 @@
+-- `dossier::delete`: the rows, then the subject's partition.
+use borrow.Author.Needs.{needs}
+use mathlib.Core.Path.{sym, _∙_}
+use native.Mathlib.Omega.{arith}
+use Rattle.model.proofs.Dominance.{label-lt}
+use Rattle.dossier.proofs.Doing.{did-refused, opened-own, delete-opened, delete-did}
+use Rattle.dossier.proofs.delete.Statement.{statement}
+use Rattle.dossier.proofs.delete.Tie as tie
+
+pub delete-spec : {M : Type 1} → statement M
+delete-spec =
+    tie.close
+    (tie.spec
+    (λ c. search needs)  -- delete-row-requires
+    (λ c. search needs)  -- same-length
+    (λ c. did-refused _ _ _ (c .before .delete-row .ensures) (c .if1 .taken))  -- returns
+    (λ c. omega (arith, label-lt _ ((delete-opened _ _ (c .before .before .before .before .before .before .args .path .now) (sym (c .before .if1 .left) ∙ c .before .before .delete-row .ensures)) .label)))  -- cast-remove
+    (λ c κs. opened-own (delete-opened _ _ (c .before .before .before .before .before .before .args .path .now) (sym (c .before .if1 .left) ∙ c .before .before .delete-row .ensures)))  -- remove-requires
+    (λ c. search needs)  -- same-length-2
+    (λ c. delete-did _ _ (c .before .before .before .before .before .before .before .before .before .args .path .now) (sym (c .before .before .before .before .if1 .left) ∙ c .before .before .before .before .before .delete-row .ensures) (c .before .before .remove .ensures))  -- returns-2
+    )

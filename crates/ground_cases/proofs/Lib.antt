@@ -1,0 +1,2 @@
+-- Laws for the proofs here.
+pub mod Guards

@@ -1,0 +1,16 @@
+-- `partitions::show_below`: only a well-formed partition is searched.
+use borrow.Author.Needs.{needs}
+use Rattle.ground_cases.proofs.Guards.{formed}
+use Rattle.ground_cases.proofs.partitions.show_below.Statement.{statement}
+use Rattle.ground_cases.proofs.partitions.show_below.Tie as tie
+
+pub show-below-spec : {M : Type 1} → statement M
+show-below-spec =
+    tie.close
+    (tie.spec
+    (λ c. search needs)  -- is-well-formed-requires
+    (λ c. search needs)  -- returns
+    (λ c κs. formed 0 (c .before .before .is-well-formed .ensures) (c .before .if1 .left))  -- has-below-requires
+    (λ c. search needs)  -- outcome-requires
+    (λ c. search needs)  -- returns-2
+    )

@@ -1,0 +1,88 @@
+-- A value is allowed where it passes the rule of its kind; the letter of a kind is its rule's.
+use mathlib.Core.Path.{_≡_, refl}
+use mathlib.Core.Bool.{Bool, false, _&&_, and-true}
+use mathlib.Core.List.{List, [], _∷_}
+use Prim.Native.Nat.{ℕ, zero, suc, _≤_, _<_}
+use native.Mathlib.Omega.{arith}
+use lib.ListN.{length}
+use lib.Dec.{T, leb, eqb}
+use mir.Facts.{leb-yes, yes-leb, eqb-yes, yes-eqb, ltb-yes}
+use borrow.Author.Tests.{le-leb, lt-leb}
+use Rattle.model.specs.Lists.{all, isByte}
+use Rattle.model.specs.Value.{isPrintable, allowed}
+use Rattle.model.specs.View.{letter}
+use Rattle.model.proofs.Bools.{and-l, and-r, both, is-true, same-test}
+use Rattle.model.proofs.Lists.{Bytes, all-implies}
+use Rattle.kind.specs.declared.Rule.{Rule}
+use Rattle.kind.specs.Rule.{ruleOf, within, passes}
+
+-- every kind from 3 on has the rule of 3
+pub other-kinds : (k : ℕ) → (k ≡ 0 → ⊥) → (k ≡ 1 → ⊥) → (k ≡ 2 → ⊥) → ruleOf 3 ≡ ruleOf k
+unfolding ruleOf
+other-kinds zero a b c = absurd (a refl)
+other-kinds (suc zero) a b c = absurd (b refl)
+other-kinds (suc (suc zero)) a b c = absurd (c refl)
+other-kinds (suc (suc (suc k))) a b c = refl
+
+-- ---- the test of a rule
+
+module _ (r : Rule) (v : List ℕ) where
+  pub too-short : length v < r .least → false ≡ passes r v
+  unfolding passes
+  too-short h = rw (lt-leb (r .least) (length v) h)
+
+  module _ (h : r .least ≤ length v) where
+    pub too-long : r .most < length v → false ≡ passes r v
+    unfolding passes
+    too-long k = rw (le-leb (r .least) (length v) h, lt-leb (length v) (r .most) k)
+
+    pub by-bytes : length v ≤ r .most → {t : Bool} → t ≡ all (within (r .low) (r .high)) v → t ≡ passes r v
+    unfolding passes
+    by-bytes k e = rw (le-leb (r .least) (length v) h, le-leb (length v) (r .most) k) e
+
+-- ---- the rules of the kinds
+
+byte-within : (x : ℕ) → T (isByte x) → T (within 0 255 x)
+unfolding isByte
+byte-within x t =
+    let l : 0 ≤ x = omega arith in
+    let h : x < 256 = ltb-yes t in
+    let k : x ≤ 255 = omega arith in
+    search (both, yes-leb)
+
+-- no value passes the rule of 3
+none : (v : List ℕ) → false ≡ passes (ruleOf 3) v
+unfolding ruleOf
+none [] = too-short (ruleOf 3) [] (omega arith)
+none (x ∷ v) = too-long (ruleOf 3) (x ∷ v) (omega arith) (omega arith)
+
+-- n bytes of any value
+exactly : (n : ℕ) (v : List ℕ) → T (all isByte v) → eqb (length v) n ≡ (leb n (length v) && leb (length v) n && all (within 0 255) v)
+exactly n v b =
+    same-test (eqb (length v) n) (leb n (length v) && leb (length v) n && all (within 0 255) v)
+    (λ (t : T (eqb (length v) n)).
+    let e : length v ≡ n = eqb-yes t in
+    let l : n ≤ length v = omega arith in
+    let h : length v ≤ n = omega arith in
+    let w : T (all (within 0 255) v) = all-implies isByte (within 0 255) v byte-within b in
+    search (both, yes-leb))
+    (λ (t : T (leb n (length v) && leb (length v) n && all (within 0 255) v)).
+    let l : n ≤ length v = leb-yes (search (and-l, and-r)) in
+    let h : length v ≤ n = leb-yes (search (and-l, and-r)) in
+    let e : length v ≡ n = omega arith in
+    yes-eqb e)
+
+pub allowed-rule : (k : ℕ) {v : List ℕ} → Bytes v → allowed k v ≡ passes (ruleOf k) v
+unfolding allowed isPrintable ruleOf passes
+allowed-rule zero {v} b = exactly 0 v (b .bytes)
+allowed-rule (suc zero) {v} b =
+    rw (is-true (all isByte v) (b .bytes), and-true (eqb (length v) 4)) (exactly 4 v (b .bytes))
+allowed-rule (suc (suc zero)) b = refl
+allowed-rule (suc (suc (suc k))) {v} b = none v
+
+pub letter-rule : (k : ℕ) → ruleOf k .letter ∷ [] ≡ letter k
+unfolding letter ruleOf
+letter-rule zero = refl
+letter-rule (suc zero) = refl
+letter-rule (suc (suc zero)) = refl
+letter-rule (suc (suc (suc k))) = refl

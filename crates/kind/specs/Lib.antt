@@ -1,0 +1,2 @@
+-- The rules of the kinds as definitions.
+pub mod Rule

@@ -1,0 +1,2 @@
+-- The law of the mask.
+pub mod Mask

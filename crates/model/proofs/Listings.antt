@@ -1,0 +1,38 @@
+-- What a view lists: the paths at or below its own that are in view, the root left out, in ascending path order. With their
+-- order the members leave one list only (`ascending-unique`).
+use mathlib.Core.List.{List, [], _∷_}
+use lib.Dec.{T}
+use Rattle.model.specs.Lists.{keep, gather}
+use Rattle.model.specs.Sets.{ascending}
+use Rattle.model.specs.Path.{Step, isPrefix, prefixes, key, pathRank}
+use Rattle.model.specs.Element.{Element}
+use Rattle.model.specs.View.{reaches, listed}
+use Rattle.model.proofs.Members.{_∈_, any-in, in-any, keep-in, in-keep, gather-in, in-gather}
+use Rattle.model.proofs.Order.{ascending-sort, sort-in, in-sort}
+use Rattle.model.proofs.Paths.{in-prefixes, prefixes-in, key-keyed, keys-injective}
+
+module _ (v : List Element) (p : List Step) where
+  pub listed-ascends : T (ascending pathRank (listed v p))
+  unfolding listed
+  listed-ascends = ascending-sort pathRank (keep (isPrefix p) (gather (λ e. prefixes (e .path)) v))
+
+  -- a listed path is at or below p, and is a visible element's path or a prefix of one
+  pub listed-in : (q : List Step) → q ∈ listed v p → T (isPrefix p q) × T (reaches v q)
+  unfolding listed
+  listed-in q m =
+      let k = keep-in (isPrefix p) (gather (λ e. prefixes (e .path)) v) (sort-in pathRank (keep (isPrefix p) (gather (λ e. prefixes (e .path)) v)) m) in
+      let g = gather-in (λ (e : Element). prefixes (e .path)) v (k .0) in
+      (k .1, above q (g .0) (g .1) (in-prefixes q (g .0 .path) (g .2)))
+    where
+      above : (r : List Step) (e : Element) → e ∈ v → T (isPrefix r (e .path)) → T (reaches v r)
+      above [] e m t = tt
+      above (a ∷ r) e m t = in-any (λ d. isPrefix (a ∷ r) (d .path)) v m t
+
+  -- and each such path but the root is listed
+  pub in-listed : (a : Step) (q : List Step) → T (isPrefix p (a ∷ q)) → T (reaches v (a ∷ q)) → a ∷ q ∈ listed v p
+  unfolding listed
+  in-listed a q s t =
+      let r : (e : Element) × (e ∈ v) × T (isPrefix (a ∷ q) (e .path)) = any-in (λ d. isPrefix (a ∷ q) (d .path)) v t in
+      in-sort pathRank (keys-injective key key-keyed) (keep (isPrefix p) (gather (λ e. prefixes (e .path)) v))
+      (in-keep (isPrefix p) (gather (λ e. prefixes (e .path)) v)
+      (in-gather (λ e. prefixes (e .path)) v (r .1) (prefixes-in a q (r .0 .path) (r .2))) s)

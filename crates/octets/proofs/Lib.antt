@@ -1,0 +1,3 @@
+-- The laws of the loops.
+pub mod Tests
+pub mod Shifts

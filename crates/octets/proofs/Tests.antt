@@ -1,0 +1,59 @@
+-- A test of every member of a list, one member at a time; what a slice holds; when or-ed numbers are 0.
+use mathlib.Core.Path.{_≡_, refl, sym, ap, _∙_}
+use mathlib.Core.Bool.{Bool, true, _&&_, and-true, and-assoc}
+use mathlib.Core.List.{List, [], _∷_}
+use Prim.Native.Nat.{ℕ, zero, suc, _+_, _≤_, _<_}
+use native.Mathlib.Numerals.{add-one}
+use native.Mathlib.Omega.{arith}
+use lib.ListN.{length, drop, getD, drop-of-length-le}
+use lib.Seq.{drop-cons}
+use lib.Bits.{bitOr, or-zero-l, or-add-and, and-le-r}
+use lib.Dec.{T, eqb}
+use mir.Syntax.{w8}
+use mir.Val.{Fits}
+use mir.Facts.{yes-ltb, fits-lt-pow}
+use borrow.Author.Tests.{ne-eqb}
+use Rattle.model.specs.Lists.{all, isByte}
+use Rattle.model.proofs.Bools.{both}
+use Rattle.model.proofs.Lists.{Bytes}
+
+-- t is the answer for the first i members
+pub record Tested (p : ℕ → Bool) (s : List ℕ) (t : Bool) (i : ℕ) : Type 0 where
+  pub within : i ≤ length s
+  pub same : all p s ≡ (t && all p (drop i s))
+
+pub test-start : (p : ℕ → Bool) (s : List ℕ) → Tested p s true 0
+test-start p s = record { within = omega arith; same = refl }
+
+module _ {p : ℕ → Bool} {s : List ℕ} {t : Bool} {i : ℕ} (inv : Tested p s t i) where
+  pub test-next : i < length s → {u : Bool} → u ≡ (t && p (getD s i 0)) → Tested p s u (i + 1)
+  test-next h e =
+      let d : drop i s ≡ getD s i 0 ∷ drop (i + 1) s = rw (add-one i) (drop-cons s i 0 h) in
+      record {
+        within = omega arith;
+        same =
+            inv .same ∙ ap (λ (l : List ℕ). t && all p l) d ∙ sym (and-assoc t (p (getD s i 0)) (all p (drop (i + 1) s)))
+            ∙ ap (λ (b : Bool). b && all p (drop (i + 1) s)) (sym e);
+      }
+
+  pub test-end : length s ≤ i → t ≡ all p s
+  test-end h = sym (inv .same ∙ ap (λ (l : List ℕ). t && all p l) (drop-of-length-le s h) ∙ and-true t)
+
+byte : (x : ℕ) → Fits w8 x → T (isByte x)
+unfolding isByte
+byte x f = yes-ltb (fits-lt-pow f)
+
+-- the members of a slice are bytes
+pub slice-bytes : (s : List ℕ) → ((i : ℕ) → Fits w8 (getD s i 0)) → Bytes s
+slice-bytes s f = record { bytes = go s f }
+  where
+    go : (l : List ℕ) → ((i : ℕ) → Fits w8 (getD l i 0)) → T (all isByte l)
+    go [] g = tt
+    go (x ∷ l) g = both (isByte x) (all isByte l) (byte x (g 0)) (go l (λ i. g (suc i)))
+
+-- two numbers or-ed are 0 where both are
+pub or-is-zero : (a x : ℕ) → eqb (bitOr a x) 0 ≡ (eqb a 0 && eqb x 0)
+or-is-zero zero x = rw (or-zero-l x)
+or-is-zero (suc a) x =
+    ne-eqb (bitOr (suc a) x) 0 (λ e. omega (arith, or-add-and (suc a) x, and-le-r (suc a) x))
+    ∙ ap (λ (t : Bool). t && eqb x 0) (sym (ne-eqb (suc a) 0 (λ e. omega arith)))

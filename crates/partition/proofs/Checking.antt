@@ -1,0 +1,280 @@
+-- A partition checked slot by slot.
+use mathlib.Core.Path.{_≡_, refl, sym, ap, ap₂, _∙_}
+use mathlib.Core.Bool.{Bool, true, false, not, _&&_, _||_}
+use mathlib.Core.List.{List, [], _∷_, map}
+use Prim.Native.Nat.{ℕ, zero, suc, _+_, _-_, _≤_, _<_}
+use native.Mathlib.Omega.{arith}
+use borrow.Author.Tests.{not-true, not-false}
+use lib.ListN.{length}
+use lib.Dec.{T, eqb, leb}
+use mir.Facts.{not-T, yes-ltb, leb-yes}
+use Rattle.model.specs.Lists.{all, range, isByte, allZero, between}
+use Rattle.model.specs.Label.{isLabel}
+use Rattle.model.specs.Path.{Step, isPrefix, parent, endsIn, validPath, key}
+use Rattle.model.specs.Element.{rank, validElement, closed}
+use Rattle.model.specs.Sets.{ascending}
+use Rattle.model.specs.Slot.{slotSize, depth, stepAt, readPath, readSlot, unusedZero}
+use Rattle.model.specs.Partition.{slotsAt, partitionSize, count, slotStart, slotAt, slots, readPartition, wellFormed}
+use Rattle.model.proofs.Bools.{and-l, and-r, both, is-true, is-false, same-test}
+use Rattle.model.proofs.Partitions.{WellFormed, well-formed, yes-well-formed}
+use Rattle.model.proofs.Slots.{Fits, valid-fits}
+use Rattle.model.proofs.Walks.{rest, rest-more, rest-end}
+use Rattle.path.specs.Common.{common, isBefore, Compared}
+use Rattle.path.proofs.Steps.{ends-range, parent-range}
+use Rattle.path.proofs.Common.{common-first, common-parent}
+use Rattle.slot.specs.Slot.{validSlot, Readable}
+use Rattle.slot.proofs.Reading.{length-path}
+use Rattle.partition.specs.Linked.{mayFollow, linked, goodSlot, goodSlots, pathBefore}
+use Rattle.partition.proofs.Linking.{linked-is}
+
+-- ---- a slot's parent
+
+module _ (b : List ℕ) (n : ℕ) {d : ℕ} (e : (d ≡ depth b) × (d < 256)) where
+  -- the parent of the first d steps
+  cut : endsIn n (parent (range (stepAt b) 0 d)) ≡ endsIn n (parent (readPath b))
+  unfolding readPath
+  cut = ap (λ (c : ℕ). endsIn n (parent (range (stepAt b) 0 c))) (e .0)
+
+  pub no-parent : d < 2 → false ≡ endsIn n (parent (readPath b))
+  no-parent h = go d h ∙ cut
+    where
+      go : (c : ℕ) → c < 2 → false ≡ endsIn n (parent (range (stepAt b) 0 c))
+      go zero k = refl
+      go (suc zero) k = refl
+      go (suc (suc c)) k = absurd (omega arith)
+
+  pub parent-ends : 2 ≤ d → {l : ℕ} → l ≡ stepAt b (d - 2) .label → eqb l n ≡ endsIn n (parent (readPath b))
+  parent-ends h {l} f = go (d - 2) (omega arith) f ∙ cut
+    where
+      go : (c : ℕ) → d ≡ suc (suc c) → l ≡ stepAt b c .label → eqb l n ≡ endsIn n (parent (range (stepAt b) 0 d))
+      go c q g =
+          let z : suc c - 1 ≡ c = omega arith in
+          sym
+          (ap (λ (k : ℕ). endsIn n (parent (range (stepAt b) 0 k))) q
+          ∙ ap (endsIn n) (parent-range (stepAt b) 0 (suc c))
+          ∙ ends-range (stepAt b) (suc c) n (omega arith) (rw z g))
+
+-- ---- a slot after another
+
+module _ (n : ℕ) (a b : List ℕ) {s : ℕ} {t : Bool} (m : Compared (readPath a) (readPath b) s t) where
+  pub not-after : not t ≡ true → false ≡ mayFollow n (readPath a) (readPath b)
+  unfolding mayFollow
+  not-after h = let q : isBefore (readPath a) (readPath b) ≡ false = sym (m .before-is) ∙ not-true t h in rw q
+
+  module _ (after : not t ≡ false) {r : Bool} (f : r ≡ endsIn n (parent (readPath b))) where
+    order : isBefore (readPath a) (readPath b) ≡ true
+    order = sym (m .before-is) ∙ not-false t after
+
+    pub free-parent : not r ≡ true → true ≡ mayFollow n (readPath a) (readPath b)
+    unfolding mayFollow
+    free-parent h = let q : endsIn n (parent (readPath b)) ≡ false = sym f ∙ not-true r h in rw (order, q)
+
+    pub shared-parent : not r ≡ false → {d : ℕ} → (d ≡ depth b) × (d < 256) → leb d (s + 1) ≡ mayFollow n (readPath a) (readPath b)
+    unfolding mayFollow
+    shared-parent h {d} e =
+        let q : endsIn n (parent (readPath b)) ≡ true = sym f ∙ not-false r h in
+        let l : length (readPath b) ≡ d = length-path b ∙ sym (e .0) in
+        let z : s + 1 ≡ suc s = omega arith in
+        sym (rw (order, q) (common-parent (readPath a) (readPath b) ∙ ap₂ leb l (ap suc (sym (m .shared-is)) ∙ sym z)))
+
+-- a shared count is small
+pub shared-small : (a b : List ℕ) {s : ℕ} {t : Bool} → Compared (readPath a) (readPath b) s t → depth a ≤ 6 → s ≤ 6
+shared-small a b m h =
+    let k : common (readPath a) (readPath b) ≤ length (readPath a) = common-first (readPath a) (readPath b) in
+    let l : length (readPath a) ≡ depth a = length-path a in
+    omega (arith, m .shared-is)
+
+-- ---- all slots
+
+good-all : (n : ℕ) (p : List Step) (bs : List (List ℕ))
+    → goodSlots n p bs ≡ (all (validElement n) (map readSlot bs) && all unusedZero bs && linked n p (map readSlot bs))
+unfolding goodSlot validSlot readSlot
+good-all n p [] = refl
+good-all n p (b ∷ bs) =
+    ap (λ (x : Bool). goodSlot n p b && x) (good-all n (readPath b) bs)
+    ∙ regroup (validElement n (readSlot b)) (unusedZero b) (mayFollow n p (readPath b)) (all (validElement n) (map readSlot bs)) (all unusedZero bs) (linked n (readPath b) (map readSlot bs))
+  where
+    regroup : (v u m vs us ms : Bool) → (((v && u) && m) && ((vs && us) && ms)) ≡ (((v && vs) && (u && us)) && (m && ms))
+    regroup false u m vs us ms = refl
+    regroup true false m vs us ms = none vs
+      where
+        none : (x : Bool) → false ≡ ((x && false) && (m && ms))
+        none true = refl
+        none false = refl
+    regroup true true false vs us ms = none (vs && us)
+      where
+        none : (x : Bool) → false ≡ (x && false)
+        none true = refl
+        none false = refl
+    regroup true true true vs us ms = refl
+
+-- what is tested before the slots
+pub record Framed (n : ℕ) (b : List ℕ) : Type 0 where
+  pub size : length b ≡ partitionSize
+  pub bytes : T (all isByte b)
+  pub label : T (isLabel n)
+  pub few : count b ≤ 32
+  pub head : T (allZero (between 1 slotsAt b))
+  pub spare : T (allZero (between (slotStart (count b)) partitionSize b))
+
+pub formed-by-slots : (n : ℕ) (b : List ℕ) → Framed n b → goodSlots n [] (slots b) ≡ wellFormed n b
+unfolding readPartition
+formed-by-slots n b f =
+    same-test (goodSlots n [] (slots b)) (wellFormed n b)
+    (λ (t : T (goodSlots n [] (slots b))).
+    let u : T (all (validElement n) (readPartition b) && all unusedZero (slots b) && linked n [] (readPartition b)) = rw (good-all n [] (slots b)) at t in
+    let v : T (all (validElement n) (readPartition b)) = search (and-l, and-r) in
+    let k : T (linked n [] (readPartition b)) = search (and-l, and-r) in
+    let l : T (ascending rank (readPartition b) && closed n (readPartition b)) = rw (linked-is n (readPartition b) (f .label) v) k in
+    yes-well-formed key n b
+    (record {
+      size = f .size;
+      bytes = f .bytes;
+      few = f .few;
+      valid = v;
+      unused = search (and-l, and-r);
+      ascends = search (and-l, and-r);
+      spare = f .spare;
+      head = f .head;
+      closes = search (and-l, and-r);
+    }))
+    (λ (t : T (wellFormed n b)).
+    let w : WellFormed key n b = well-formed key n b t in
+    let k : T (linked n [] (readPartition b)) =
+    rw (linked-is n (readPartition b) (f .label) (w .valid)) at (both (ascending rank (readPartition b)) (closed n (readPartition b)) (w .ascends) (w .closes)) in
+    rw (good-all n [] (slots b))
+    (both (all (validElement n) (readPartition b) && all unusedZero (slots b)) (linked n [] (readPartition b))
+    (both (all (validElement n) (readPartition b)) (all unusedZero (slots b)) (w .valid) (w .unused)) k))
+
+falsely : (r x : Bool) → r ≡ x → not r ≡ true → T x → ⊥
+falsely r x e t h = let f : x ≡ false = sym e ∙ not-true r t in rw f at h
+
+truly : (r x : Bool) → r ≡ x → not r ≡ false → T x
+truly r x e t = let f : x ≡ true = sym e ∙ not-false r t in rw f tt
+
+-- a partition that lacks one of these is not well formed
+module _ (n : ℕ) (b : List ℕ) where
+  refuted : (WellFormed key n b → ⊥) → false ≡ wellFormed n b
+  refuted h = sym (is-false (wellFormed n b) (not-T (wellFormed n b) (λ t. h (well-formed key n b t))))
+
+  pub too-many : 32 < count b → false ≡ wellFormed n b
+  too-many h = refuted (λ w. omega (arith, w .few))
+
+  pub head-used : {r : Bool} → r ≡ allZero (between 1 slotsAt b) → not r ≡ true → false ≡ wellFormed n b
+  head-used {r} e t = refuted (λ w. falsely r (allZero (between 1 slotsAt b)) e t (w .head))
+
+  pub spare-used : {c : ℕ} {r : Bool} → (c ≡ count b) × (c < 256) → r ≡ allZero (between (slotStart c) partitionSize b) → not r ≡ true → false ≡ wellFormed n b
+  spare-used {c} {r} f e t = refuted (λ w. falsely r (allZero (between (slotStart c) partitionSize b)) e t (rw (f .0) (w .spare)))
+
+pub framed : (n : ℕ) (b : List ℕ) {c : ℕ} {r s : Bool} → length b ≡ partitionSize → T (all isByte b) → n < 32 → (c ≡ count b) × (c < 256) → c ≤ 32
+    → r ≡ allZero (between 1 slotsAt b) → not r ≡ false → s ≡ allZero (between (slotStart c) partitionSize b) → not s ≡ false → Framed n b
+unfolding isLabel
+framed n b {c} {r} {s} z y l e h f t g u =
+    record {
+      size = z;
+      bytes = y;
+      label = yes-ltb l;
+      few = omega arith;
+      head = truly r (allZero (between 1 slotsAt b)) f t;
+      spare = rw (← (e .0)) (truly s (allZero (between (slotStart c) partitionSize b)) g u);
+    }
+
+-- ---- one slot
+
+pub valid-steps : (n : ℕ) (b : List ℕ) → T (validSlot n b) → depth b ≤ 6
+unfolding validSlot readSlot
+valid-steps n b t =
+    let f : Fits (readSlot b) = valid-fits n (readSlot b) (and-l (validElement n (readSlot b)) (unusedZero b) t) in
+    rw (length-path b) at (f .steps)
+
+valid-some : (n : ℕ) (b : List ℕ) → T (validSlot n b) → 1 ≤ length (readPath b)
+unfolding validSlot readSlot validElement validPath
+valid-some n b t = leb-yes (search (and-l, and-r) depth 6)
+
+-- behind the root stands a path whose parent does not end in n
+root-follow : (n : ℕ) (q : List Step) → 1 ≤ length q → mayFollow n [] q ≡ not (endsIn n (parent q))
+unfolding mayFollow key
+root-follow n [] h = absurd (omega arith)
+root-follow n (a ∷ q) h = go (parent (a ∷ q))
+  where
+    go : (r : List Step) → (not (endsIn n r) || isPrefix r []) ≡ not (endsIn n r)
+    go [] = refl
+    go (c ∷ r) = free (not (endsIn n (c ∷ r)))
+      where
+        free : (x : Bool) → (x || false) ≡ x
+        free true = refl
+        free false = refl
+
+-- slot x of the partition, found valid or not
+module _ (n : ℕ) {x b : List ℕ} {v : Bool} (e : (x ≡ b) × (length x ≡ slotSize)) (f : v ≡ validSlot n x) where
+  pub slot-bad : (p : List Step) → not v ≡ true → false ≡ goodSlot n p b
+  unfolding goodSlot
+  slot-bad p t = let q : validSlot n b ≡ false = ap (validSlot n) (sym (e .0)) ∙ sym f ∙ not-true v t in rw q
+
+  module _ (yes : not v ≡ false) where
+    valid : T (validSlot n x)
+    valid = truly v (validSlot n x) f yes
+
+    pub slot-readable : Readable x
+    slot-readable = record { size = e .1; steps = valid-steps n x valid }
+
+    pub slot-deep : depth b ≤ 6
+    slot-deep = rw (← (e .0)) (valid-steps n x valid)
+
+    goes : (p : List Step) → goodSlot n p b ≡ mayFollow n p (readPath x)
+    unfolding goodSlot
+    goes p = rw (← (e .0), is-true (validSlot n x) valid)
+
+    pub first-slot : (c : List ℕ) {i : ℕ} {r : Bool} → i ≡ 0 → r ≡ endsIn n (parent (readPath x)) → not r ≡ goodSlot n (pathBefore c i) b
+    first-slot c h g = ap not g ∙ sym (root-follow n (readPath x) (valid-some n x valid)) ∙ sym (ap (λ (k : ℕ). goodSlot n (pathBefore c k) b) h ∙ goes [])
+
+    pub later-slot : (c : List ℕ) {i : ℕ} {y : List ℕ} {r : Bool} → (i ≡ 0 → ⊥) → (y ≡ slotAt c (i - 1)) × (length y ≡ slotSize)
+        → r ≡ mayFollow n (readPath y) (readPath x) → r ≡ goodSlot n (pathBefore c i) b
+    later-slot c {i} {y} {r} h d g = go (i - 1) (omega arith) (d .0)
+      where
+        go : (k : ℕ) → i ≡ suc k → y ≡ slotAt c k → r ≡ goodSlot n (pathBefore c i) b
+        go k q z = g ∙ ap (λ (l : List ℕ). mayFollow n (readPath l) (readPath x)) z ∙ sym (ap (λ (j : ℕ). goodSlot n (pathBefore c j) b) q ∙ goes (readPath (slotAt c k)))
+
+-- a slot that is read is one of the partition, with at most six steps
+pub before-readable : (c : List ℕ) {i : ℕ} {y : List ℕ} → (i ≡ 0 → ⊥) → (y ≡ slotAt c (i - 1)) × (length y ≡ slotSize)
+    → ((k : ℕ) → k + 1 ≡ i → depth (slotAt c k) ≤ 6) → Readable y
+before-readable c {i} h d f = record { size = d .1; steps = rw (d .0) (f (i - 1) (omega arith)) }
+
+-- ---- the loop over the slots
+
+pub record Linking (b : List ℕ) (n c i : ℕ) : Type 0 where
+  pub within : i ≤ c
+  pub deep : (k : ℕ) → k + 1 ≡ i → depth (slotAt b k) ≤ 6
+  pub same : goodSlots n [] (slots b) ≡ goodSlots n (pathBefore b i) (rest (slotAt b) c i)
+
+pub link-start : (b : List ℕ) (n : ℕ) {c : ℕ} → c ≡ count b → Linking b n c 0
+unfolding slots
+link-start b n {c} e =
+    let z : count b ≡ c - 0 = omega arith in
+    record {
+      within = omega arith;
+      deep = λ k h. absurd (omega arith);
+      same = ap (λ (m : ℕ). goodSlots n [] (range (slotAt b) 0 m)) z;
+    }
+
+module _ {b : List ℕ} {n c i : ℕ} (inv : Linking b n c i) where
+  pub link-end : c ≤ i → true ≡ goodSlots n [] (slots b)
+  link-end h = sym (inv .same ∙ ap (goodSlots n (pathBefore b i)) (rest-end (slotAt b) c i h))
+
+  module _ {r : Bool} (h : i < c) (e : r ≡ goodSlot n (pathBefore b i) (slotAt b i)) where
+    here : goodSlots n [] (slots b) ≡ (r && goodSlots n (readPath (slotAt b i)) (rest (slotAt b) c (i + 1)))
+    here = inv .same ∙ ap (goodSlots n (pathBefore b i)) (rest-more (slotAt b) c i h) ∙ ap (λ (x : Bool). x && goodSlots n (readPath (slotAt b i)) (rest (slotAt b) c (i + 1))) (sym e)
+
+    pub link-fails : not r ≡ true → false ≡ goodSlots n [] (slots b)
+    link-fails t = sym (here ∙ ap (λ (x : Bool). x && goodSlots n (readPath (slotAt b i)) (rest (slotAt b) c (i + 1))) (not-true r t))
+
+    pub link-next : not r ≡ false → Linking b n c (i + 1)
+    unfolding goodSlot
+    link-next t =
+        let z : i + 1 ≡ suc i = omega arith in
+        let g : T (goodSlot n (pathBefore b i) (slotAt b i)) = truly r (goodSlot n (pathBefore b i) (slotAt b i)) e t in
+        record {
+          within = omega arith;
+          deep = λ k q. let s : k ≡ i = omega arith in rw s (valid-steps n (slotAt b i) (and-l (validSlot n (slotAt b i)) _ g));
+          same = here ∙ ap (λ (x : Bool). x && goodSlots n (readPath (slotAt b i)) (rest (slotAt b) c (i + 1))) (not-false r t) ∙ ap (λ (m : ℕ). goodSlots n (pathBefore b m) (rest (slotAt b) c (i + 1))) (sym z);
+        }

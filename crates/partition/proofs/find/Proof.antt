@@ -1,0 +1,32 @@
+-- `partition::find`: the elements before slot i come before the path.
+use borrow.Author.Needs.{needs}
+use native.Mathlib.Omega.{arith}
+use Prim.Native.Nat.{_-_}
+use Rattle.model.specs.Path.{stepsOf}
+use Rattle.partition.proofs.Finding.{facts, formed-readable, Finding, find-start, find-next, find-here, find-end}
+use Rattle.partition.proofs.find.Statement.{statement}
+use Rattle.partition.proofs.find.Tie as tie
+
+abbrev Inv-loop : tie.InvT-loop
+Inv-loop part path c i₀ i = Finding part (stepsOf path) c i
+
+abbrev μ-loop : tie.MeasureT-loop
+μ-loop part path c i₀ i = c - i
+
+pub find-spec : {M : Type 1} → statement M
+find-spec =
+    tie.close
+    (tie.spec
+    Inv-loop
+    μ-loop
+    (λ c κs. facts (c .before .before .pre) .size)  -- count-requires
+    (λ c. find-start (c .before .before .before .pre) _ (c .count .ensures))  -- loop-holds
+    (λ c κs. (facts (c .before .before .before .before .before .pre) .size, omega (arith, facts (c .before .before .before .before .before .pre) .few)))  -- slot-at-requires
+    (λ c κs. formed-readable (c .before .before .before .before .before .before .pre) (c .before .before .before .count .ensures) (c .before .loop-test .taken) (c .slot-at .ensures))  -- compare-path-requires
+    (λ c κs. (formed-readable (c .before .before .before .before .before .before .before .before .before .pre) (c .before .before .before .before .before .before .count .ensures) (c .before .before .before .before .loop-test .taken) (c .before .before .before .slot-at .ensures), c .before .before .compare-path .ensures .shared-is))  -- is-same-requires
+    (λ c. find-here (c .before .before .before .before .before .before .loop .inv) (c .before .before .before .before .before .loop-test .taken) (c .before .before .before .before .slot-at .ensures) (c .before .before .before .compare-path .ensures) (c .before .if1 .taken) (c .is-same .ensures))  -- returns
+    (λ c. search needs)  -- add-i
+    (λ c. search needs)  -- loop-less
+    (λ c. find-next (c .before .before .before .before .before .loop .inv) (c .before .before .before .before .loop-test .taken) (c .before .before .before .slot-at .ensures) (c .before .before .compare-path .ensures) (c .if1 .left))  -- loop-again
+    (λ c. find-end (c .before .loop .inv) (c .loop-test .left))  -- returns-2
+    )

@@ -1,0 +1,28 @@
+-- `partition::is_well_formed`: the count, the zeros, then the slots.
+use borrow.Author.Needs.{needs}
+use mathlib.Core.Path.{_∙_}
+use Rattle.octets.proofs.Tests.{slice-bytes}
+use Rattle.partition.proofs.Checking.{too-many, head-used, spare-used, framed, formed-by-slots}
+use Rattle.partition.proofs.is_well_formed.Statement.{statement}
+use Rattle.partition.proofs.is_well_formed.Tie as tie
+
+pub is-well-formed-spec : {M : Type 1} → statement M
+is-well-formed-spec =
+    tie.close
+    (tie.spec
+    (λ c. search needs)  -- count-requires
+    (λ c. too-many _ _ (search needs))  -- returns
+    (λ c. search needs)  -- sub-is-zero
+    (λ c. search needs)  -- part-is-zero-start
+    (λ c. search needs)  -- part-is-zero-end
+    (λ c. search needs)  -- is-zero-requires
+    (λ c. head-used _ _ (c .before .is-zero .ensures) (c .if2 .taken))  -- returns-2
+    (λ c. search needs)  -- spare-zero-requires
+    (λ c. spare-used _ _ (c .before .before .before .before .before .before .count .ensures) (c .before .spare-zero .ensures) (c .if3 .taken))  -- returns-3
+    (λ c. search needs)  -- slots-good-requires
+    (λ c.
+    c .slots-good .ensures
+    ∙ formed-by-slots _ _
+    (framed _ _ (c .before .before .before .before .before .before .before .before .before .pre .0) (slice-bytes (c .before .before .before .before .before .before .before .before .before .args .part .now) (c .before .before .before .before .before .before .before .before .shared-slice-known .given) .bytes) (c .before .before .before .before .before .before .before .before .before .pre .1) (c .before .before .before .before .before .before .before .count .ensures) (c .before .before .before .before .before .before .if1 .left)
+    (c .before .before .before .before .is-zero .ensures) (c .before .before .before .if2 .left) (c .before .before .spare-zero .ensures) (c .before .if3 .left)))  -- returns-4
+    )

@@ -1,0 +1,19 @@
+-- `partition::may_follow`: the order, then the parent.
+use borrow.Author.Needs.{needs}
+use native.Mathlib.Omega.{arith}
+use Rattle.partition.proofs.Checking.{not-after, free-parent, shared-parent, shared-small}
+use Rattle.partition.proofs.may_follow.Statement.{statement}
+use Rattle.partition.proofs.may_follow.Tie as tie
+
+pub may-follow-spec : {M : Type 1} → statement M
+may-follow-spec =
+    tie.close
+    (tie.spec
+    (λ c. search needs)  -- compare-requires
+    (λ c. not-after _ _ _ (c .before .before .compare .ensures) (c .if1 .taken))  -- returns
+    (λ c. search needs)  -- parent-ends-in-requires
+    (λ c. free-parent _ _ _ (c .before .before .before .before .compare .ensures) (c .before .before .if1 .left) (c .before .parent-ends-in .ensures) (c .if2 .taken))  -- returns-2
+    (λ c. search needs)  -- depth-requires
+    (λ c. omega (arith, shared-small _ _ (c .before .before .before .before .before .before .compare .ensures) (c .before .before .before .before .before .before .before .before .before .pre .0 .steps)))  -- add-result
+    (λ c. shared-parent _ _ _ (c .before .before .before .before .before .before .compare .ensures) (c .before .before .before .before .if1 .left) (c .before .before .before .parent-ends-in .ensures) (c .before .before .if2 .left) (c .before .depth .ensures))  -- returns-3
+    )

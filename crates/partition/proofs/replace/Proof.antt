@@ -1,0 +1,22 @@
+-- `partition::replace`: the slot keeps its path's bytes and gets the other content's.
+use borrow.Author.Needs.{needs}
+use native.Mathlib.Omega.{arith}
+use Rattle.partition.proofs.Finding.{facts}
+use Rattle.partition.proofs.Layouts.{put-over}
+use Rattle.partition.proofs.replace.Statement.{statement}
+use Rattle.partition.proofs.replace.Tie as tie
+
+pub replace-spec : {M : Type 1} → statement M
+replace-spec =
+    tie.close
+    (tie.spec
+    (λ c. omega (arith, c .before .before .pre .1, facts (c .before .before .pre .0) .few))  -- mul-start
+    (λ c. omega (arith, c .before .before .pre .1, facts (c .before .before .pre .0) .few))  -- add-start
+    (λ c. omega (arith, c .before .before .pre .1, facts (c .before .before .pre .0) .few))  -- add-end
+    (λ c. search needs)  -- sub-replace-content
+    (λ c. search needs)  -- part-replace-content-start
+    (λ c. omega (arith, c .before .before .pre .1, facts (c .before .before .pre .0) .few, facts (c .before .before .pre .0) .size))  -- part-replace-content-end
+    (λ c. search needs)  -- replace-content-requires
+    (λ c. search needs)  -- same-length
+    (λ c. put-over (c .before .before .before .before .before .before .pre .0) (c .before .before .before .before .before .before .args .at) _ (c .before .before .before .before .before .before .pre .1) (c .before .before .replace-content .ensures))  -- returns
+    )

@@ -1,0 +1,23 @@
+-- `partition::slot_good`: valid, and behind the root or the slot before.
+use borrow.Author.Needs.{needs}
+use Rattle.partition.proofs.Checking.{slot-bad, slot-readable, first-slot, later-slot, before-readable}
+use Rattle.partition.proofs.slot_good.Statement.{statement}
+use Rattle.partition.proofs.slot_good.Tie as tie
+
+pub slot-good-spec : {M : Type 1} → statement M
+slot-good-spec =
+    tie.close
+    (tie.spec
+    (λ c. search needs)  -- slot-at-requires
+    (λ c. search needs)  -- is-valid-requires
+    (λ c. slot-bad _ (c .before .before .slot-at .ensures) (c .before .is-valid .ensures) _ (c .if1 .taken))  -- returns
+    (λ c κs. slot-readable _ (c .before .before .before .slot-at .ensures) (c .before .before .is-valid .ensures) (c .before .if1 .left))  -- parent-ends-in-requires
+    (λ c. first-slot _ (c .before .before .before .before .slot-at .ensures) (c .before .before .before .is-valid .ensures) (c .before .before .if1 .left) _ (c .before .if2 .taken) (c .parent-ends-in .ensures))  -- returns-2
+    (λ c. search needs)  -- sub-slot-at
+    (λ c. search needs)  -- slot-at-requires-2
+    (λ c κs. (
+      before-readable _ (c .before .if2 .left) (c .slot-at2 .ensures) (c .before .before .before .before .before .before .pre .1),
+      slot-readable _ (c .before .before .before .before .slot-at .ensures) (c .before .before .before .is-valid .ensures) (c .before .before .if1 .left),
+    ))  -- may-follow-requires
+    (λ c. later-slot _ (c .before .before .before .before .before .slot-at .ensures) (c .before .before .before .before .is-valid .ensures) (c .before .before .before .if1 .left) _ (c .before .before .if2 .left) (c .before .slot-at2 .ensures) (c .may-follow .ensures))  -- returns-3
+    )

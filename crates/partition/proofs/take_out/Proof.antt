@@ -1,0 +1,26 @@
+-- `partition::take_out`: the slots behind move up, zeros come in, and the count falls.
+use borrow.Author.Needs.{needs}
+use native.Mathlib.Omega.{arith}
+use Rattle.partition.proofs.Finding.{facts}
+use Rattle.partition.proofs.Layouts.{lent-size, taken-out}
+use Rattle.partition.proofs.take_out.Statement.{statement}
+use Rattle.partition.proofs.take_out.Tie as tie
+
+pub take-out-spec : {M : Type 1} → statement M
+take-out-spec =
+    tie.close
+    (tie.spec
+    (λ c. omega (arith, facts (c .before .before .pre .0) .size, facts (c .before .before .pre .0) .few))  -- slice-read-c
+    (λ c. omega (arith, facts (c .before .before .pre .0) .size, facts (c .before .before .pre .0) .few))  -- mul-start
+    (λ c. omega (arith, facts (c .before .before .pre .0) .size, facts (c .before .before .pre .0) .few))  -- add-start
+    (λ c. omega (arith, facts (c .before .before .pre .0) .size, facts (c .before .before .pre .0) .few))  -- sub-shift-down
+    (λ c. omega (arith, facts (c .before .before .pre .0) .size, facts (c .before .before .pre .0) .few))  -- part-shift-down-start
+    (λ c. omega (arith, facts (c .before .before .pre .0) .size, facts (c .before .before .pre .0) .few))  -- part-shift-down-end
+    (λ c. omega (arith, facts (c .before .before .before .pre .0) .size, facts (c .before .before .before .pre .0) .few))  -- mul-shift-down
+    (λ c κs. omega (arith, lent-size (c .before .before .before .pre .0) (c .before .before .before .args .at) (omega (arith, c .before .before .before .pre .1)), c .before .before .before .pre .1, facts (c .before .before .before .pre .0) .few))  -- shift-down-requires
+    (λ c. search needs)  -- cast-part
+    (λ c. search needs)  -- sub-part
+    (λ c. omega (arith, facts (c .before .before .before .before .before .before .pre .0) .size, c .before .part .given))  -- slice-write-part
+    (λ c. search needs)  -- same-length
+    (λ c. taken-out (c .before .before .before .before .before .before .pre .0) _ _ (c .before .before .before .before .before .before .pre .1) (c .before .before .shift-down .ensures))  -- returns
+    )

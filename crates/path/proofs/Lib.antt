@@ -1,0 +1,3 @@
+-- Laws of steps and of comparisons, for the proofs here and in the crates above.
+pub mod Steps
+pub mod Common

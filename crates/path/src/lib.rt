@@ -1,0 +1,94 @@
+// Paths that a caller lends: three bytes a step, the name lowest byte first, then the label.
+ghost use mathlib.Core.Path.{_≡_};
+ghost use Prim.Native.Nat.{_+_, _*_, _<_, _≤_};
+ghost use lib.ListN.{length};
+ghost use lib.Dec.{T};
+ghost use Rattle.model.specs.Path.{endsIn, stepsOf};
+ghost use Rattle.model.specs.Call.{goodPath};
+ghost use Rattle.path.specs.Steps.{stepOf, lentStep, mayFollow, allFollow, KeyOf};
+
+// The key of a step in path order: the name first, then the label. No other code knows the order.
+pub fn step_key(lo: u8, hi: u8, label: u8) -> u32
+    ensures { λ r. ⌜ KeyOf (stepOf lo hi label) r ⌝ }
+{
+    octets::wide(label) + 256 * octets::wide(lo) + 65536 * octets::wide(hi)
+}
+
+// Whether a step is valid and may follow one with the label before.
+pub fn may_follow(before: u8, lo: u8, hi: u8, label: u8) -> bool
+    ensures { λ r. ⌜ r ≡ mayFollow before (stepOf lo hi label) ⌝ }
+{
+    if lo == 0 {
+        if hi == 0 {
+            return false;
+        }
+        return label::dominates(label, before);
+    }
+    label::dominates(label, before)
+}
+
+// The key of step i of a lent path.
+pub fn lent_key(path: &[u8], i: usize) -> u32
+    requires { ⌜ 3 * i + 2 < length (now path) ⌝ }
+    ensures { λ r. ⌜ KeyOf (lentStep (now (path .entry)) i) r ⌝ }
+{
+    step_key(path[3 * i], path[3 * i + 1], path[3 * i + 2])
+}
+
+// The label of step i of a lent path.
+fn lent_label(path: &[u8], i: usize) -> u8
+    requires { ⌜ 3 * i + 2 < length (now path) ⌝ }
+    ensures { λ r. ⌜ r ≡ lentStep (now (path .entry)) i .label ⌝ }
+{
+    path[3 * i + 2]
+}
+
+// Whether step i of a lent path is valid and may follow one with the label before.
+fn lent_follows(before: u8, path: &[u8], i: usize) -> bool
+    requires { ⌜ 3 * i + 2 < length (now path) ⌝ }
+    ensures { λ r. ⌜ r ≡ mayFollow before (lentStep (now (path .entry)) i) ⌝ }
+{
+    may_follow(before, path[3 * i], path[3 * i + 1], path[3 * i + 2])
+}
+
+// Whether the steps of a lent path are valid and their labels ascend.
+fn steps_follow(path: &[u8]) -> bool
+    ensures { λ r. ⌜ r ≡ allFollow 0 (stepsOf (now (path .entry))) ⌝ }
+{
+    let n = path.len() / 3;
+    let mut before: u8 = 0;
+    let mut i: usize = 0;
+    while i < n {
+        if !lent_follows(before, path, i) {
+            return false;
+        }
+        before = lent_label(path, i);
+        i += 1;
+    }
+    true
+}
+
+// Whether lent bytes are a path of one to six valid steps: if not, the call is refused with 4.
+pub fn is_path(path: &[u8]) -> bool
+    ensures { λ r. ⌜ r ≡ goodPath (now (path .entry)) ⌝ }
+{
+    let n = path.len();
+    if n % 3 != 0 {
+        return false;
+    }
+    if n < 3 {
+        return false;
+    }
+    if 18 < n {
+        return false;
+    }
+    steps_follow(path)
+}
+
+// Whether the last label of a path is n.
+pub fn ends_in(path: &[u8], n: u8) -> bool
+    requires { ⌜ T (goodPath (now path)) ⌝ }
+    ensures { λ r. ⌜ r ≡ endsIn n (stepsOf (now (path .entry))) ⌝ }
+{
+    path[path.len() - 1] == n
+}

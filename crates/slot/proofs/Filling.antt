@@ -1,0 +1,205 @@
+-- A slot laid out: fields filled member by member, and bytes written field by field.
+use mathlib.Core.Path.{_≡_, refl, sym, ap, ap₂, _∙_}
+use mathlib.Core.List.{List, [], _∷_, _++_, map, map-append, append-nil, append-assoc}
+use Prim.Native.Nat.{ℕ, zero, suc, _+_, _-_, _*_, _/_, _%_, _≤_, _<_}
+use native.Mathlib.Omega.{arith}
+use lib.ListN.{length, take, drop, getD, set, replicate, replicate-append-replicate, length-append, length-set, length-replicate, length-map, drop-of-length-le, take-append-drop}
+use lib.Seq.{length-take-le, take-all, take-at, drop-at, drop-drop, drop-length, drop-cons, append-snoc, set-at}
+use borrow.Rule.Slice.PartMut.{putMid}
+use Rattle.model.specs.Lists.{gather, range, pad}
+use Rattle.model.specs.Path.{Step, stepsOf}
+use Rattle.model.specs.Value.{Content}
+use Rattle.model.specs.Slot.{namesAt, labelsAt, kindAt, lengthAt, valueAt, spareAt, slotSize, field, nameBytes, pathBytes, contentBytes, slotBytes}
+use Rattle.model.proofs.Lists.{length-range, length-pad, pad-short, drop-replicate}
+use Rattle.model.proofs.Slots.{length-names}
+use Rattle.path.specs.Steps.{lentStep}
+use Rattle.path.proofs.Steps.{lent-range, length-steps}
+
+-- ---- a field filled from its front
+
+-- no byte is left where all are shifted out
+pub cleared : (xs : List ℕ) {s : List ℕ} → s ≡ drop (length xs) xs ++ replicate (length xs) 0 → s ≡ replicate (length xs) 0
+cleared xs e = e ∙ rw (drop-length xs)
+
+pad-one : (x : ℕ) → pad 1 (x ∷ []) ≡ x ∷ []
+unfolding pad
+pad-one x = refl
+
+pad-none : (n : ℕ) → replicate n 0 ≡ pad n []
+pad-none n = let z : n - 0 ≡ n = omega arith in sym (pad-short n [] (omega arith) ∙ rw z)
+
+-- a value written over the zeros of a field and of one behind it
+pub value-padded : (m n : ℕ) (xs v : List ℕ) {z s : List ℕ} → length xs ≡ m + n → length v ≤ m → z ≡ replicate (length xs) 0
+    → s ≡ take (length v) v ++ drop (length v) z → s ≡ pad m v ++ pad n []
+value-padded m n xs v l h e f =
+    let k : m + n - length v ≡ m - length v + n = omega arith in
+    f
+    ∙ rw (e, l, take-all (length v) v (omega arith), drop-replicate (length v) (m + n), k, ← (pad-none n), pad-short m v h, append-assoc)
+    (ap (λ (r : List ℕ). v ++ r) (sym (replicate-append-replicate {A = ℕ} (m - length v) n 0)))
+
+-- one byte more
+pad-set : (n : ℕ) (l : List ℕ) (i x : ℕ) → length l ≡ i → i < n → set (pad n l) i x ≡ pad n (l ++ (x ∷ []))
+pad-set n l i x h k =
+    let e : n - length l ≡ suc (n - suc i) = omega arith in
+    let m : length (l ++ (x ∷ [])) ≡ suc i = simp length-append (omega arith) in
+    let before : pad n l ≡ l ++ (0 ∷ replicate (n - suc i) 0) = pad-short n l (omega arith) ∙ rw e in
+    ap (λ (r : List ℕ). set r i x) before
+    ∙ set-at l 0 (replicate (n - suc i) 0) x i h
+    ∙ sym (pad-short n (l ++ (x ∷ [])) (omega arith) ∙ rw (m, append-snoc))
+
+-- ---- the steps of a lent path written one by one
+
+module _ {A : Type 0} (g : ℕ → A) where
+  range-more : (i n : ℕ) → range g i (suc n) ≡ range g i n ++ (g (i + n) ∷ [])
+  range-more i zero = let e : i + 0 ≡ i = omega arith in rw e
+  range-more i (suc n) = let e : i + suc n ≡ suc i + n = omega arith in rw e (ap (λ l. g i ∷ l) (range-more (suc i) n))
+
+  range-last : (n : ℕ) → range g 0 (n + 1) ≡ range g 0 n ++ (g n ∷ [])
+  range-last n =
+      let e : n + 1 ≡ suc n = omega arith in
+      let z : 0 + n ≡ n = omega arith in
+      ap (range g 0) e ∙ range-more 0 n ∙ rw z
+
+gather-append : {A B : Type 0} (f : A → List B) (l m : List A) → gather f (l ++ m) ≡ gather f l ++ gather f m
+gather-append f [] m = refl
+gather-append f (x ∷ l) m = ap (λ r. f x ++ r) (gather-append f l m) ∙ sym (append-assoc (f x) (gather f l) (gather f m))
+
+-- a field of n bytes holds what f gives for the first i steps of p, then zeros
+pub record Laid (n : ℕ) (f : List Step → List ℕ) (p s : List ℕ) (i : ℕ) : Type 0 where
+  pub within : i ≤ length p / 3
+  pub is : s ≡ pad n (f (range (lentStep p) 0 i))
+  pub size : length s ≡ n
+
+pub laid-start : (n : ℕ) (f : List Step → List ℕ) (p xs : List ℕ) {s : List ℕ} → f [] ≡ [] → length xs ≡ n → s ≡ replicate (length xs) 0 → Laid n f p s 0
+laid-start n f p xs e l h =
+    record {
+      within = omega arith;
+      is = h ∙ rw l (pad-none n ∙ ap (pad n) (sym e));
+      size = ap length h ∙ length-replicate (length xs) 0 ∙ l;
+    }
+
+pub laid-end : {n : ℕ} {f : List Step → List ℕ} {p s : List ℕ} {i : ℕ} → Laid n f p s i → length p / 3 ≤ i → s ≡ pad n (f (stepsOf p))
+laid-end {p = p} {i = i} inv h = let e : i ≡ length p / 3 = omega (arith, inv .within) in inv .is ∙ rw (e, lent-range p)
+
+pub names-next : {p s : List ℕ} {i : ℕ} → Laid 12 (gather nameBytes) p s i → length p ≤ 20 → i < length p / 3 → getD p (3 * i) 0 < 256
+    → Laid 12 (gather nameBytes) p (set (set s (2 * i) (getD p (3 * i) 0)) (2 * i + 1) (getD p (3 * i + 1) 0)) (i + 1)
+names-next {p} {s} {i} inv few h byte =
+    let lo : ℕ = getD p (3 * i) 0 in
+    let hi : ℕ = getD p (3 * i + 1) 0 in
+    let l : List ℕ = gather nameBytes (range (lentStep p) 0 i) in
+    let m : length l ≡ 2 * i = length-names (range (lentStep p) 0 i) ∙ ap (λ (n : ℕ). 2 * n) (length-range (lentStep p) 0 i) in
+    let low : (lo + 256 * hi) % 256 ≡ lo = omega arith in
+    let high : (lo + 256 * hi) / 256 ≡ hi = omega arith in
+    let m1 : length (l ++ (lo ∷ [])) ≡ 2 * i + 1 = simp length-append (omega arith) in
+    let more : gather nameBytes (range (lentStep p) 0 (i + 1)) ≡ (l ++ (lo ∷ [])) ++ (hi ∷ []) =
+    ap (gather nameBytes) (range-last (lentStep p) i)
+    ∙ gather-append nameBytes (range (lentStep p) 0 i) (lentStep p i ∷ [])
+    ∙ ap₂ (λ (x y : ℕ). l ++ (x ∷ y ∷ [])) low high
+    ∙ sym (append-assoc l (lo ∷ []) (hi ∷ [])) in
+    record {
+      within = omega arith;
+      is =
+          ap (λ (r : List ℕ). set (set r (2 * i) lo) (2 * i + 1) hi) (inv .is)
+          ∙ ap (λ (r : List ℕ). set r (2 * i + 1) hi) (pad-set 12 l (2 * i) lo m (omega arith))
+          ∙ pad-set 12 (l ++ (lo ∷ [])) (2 * i + 1) hi m1 (omega arith)
+          ∙ ap (pad 12) (sym more);
+      size = length-set (set s (2 * i) lo) (2 * i + 1) hi ∙ length-set s (2 * i) lo ∙ inv .size;
+    }
+
+-- the labels: one byte a step
+abbrev pub labels : List Step → List ℕ
+labels l = map (λ (a : Step). a .label) l
+
+pub labels-next : {p s : List ℕ} {i : ℕ} → Laid 6 labels p s i → length p ≤ 20 → i < length p / 3 → Laid 6 labels p (set s i (getD p (3 * i + 2) 0)) (i + 1)
+labels-next {p} {s} {i} inv few h =
+    let l : List ℕ = labels (range (lentStep p) 0 i) in
+    let m : length l ≡ i = length-map (range (lentStep p) 0 i) (λ (a : Step). a .label) ∙ length-range (lentStep p) 0 i in
+    let more : labels (range (lentStep p) 0 (i + 1)) ≡ l ++ (getD p (3 * i + 2) 0 ∷ []) =
+    ap labels (range-last (lentStep p) i) ∙ map-append (λ (a : Step). a .label) (range (lentStep p) 0 i) (lentStep p i ∷ []) in
+    record {
+      within = omega arith;
+      is = ap (λ (r : List ℕ). set r i (getD p (3 * i + 2) 0)) (inv .is) ∙ pad-set 6 l i (getD p (3 * i + 2) 0) m (omega arith) ∙ ap (pad 6) (sym more);
+      size = length-set s i (getD p (3 * i + 2) 0) ∙ inv .size;
+    }
+
+-- ---- a list written from its front
+
+-- s is xs with d in the place of its first members
+record Begun (d xs s : List ℕ) : Type 0 where
+  within : length d ≤ length xs
+  is : s ≡ d ++ drop (length d) xs
+
+begin : (n : ℕ) (xs : List ℕ) → n ≤ length xs → Begun (take n xs) xs xs
+begin n xs h = let l : length (take n xs) ≡ n = length-take-le n xs h in record { within = omega arith; is = rw l (sym (take-append-drop n xs)) }
+
+module _ {d xs s : List ℕ} (inv : Begun d xs s) where
+  begun-byte : (x a : ℕ) → length d ≡ a → a < length xs → Begun (d ++ (x ∷ [])) xs (set s a x)
+  begun-byte x a h k =
+      let m : length (d ++ (x ∷ [])) ≡ suc a = simp length-append (omega arith) in
+      let before : s ≡ d ++ (getD xs a 0 ∷ drop (suc a) xs) = inv .is ∙ rw (h, drop-cons xs a 0 k) in
+      record {
+        within = omega arith;
+        is =
+            ap (λ (r : List ℕ). set r a x) before
+            ∙ set-at d (getD xs a 0) (drop (suc a) xs) x a h
+            ∙ rw m (sym (append-snoc d x (drop (suc a) xs)));
+      }
+
+  begun-part : (f : List ℕ) (a k : ℕ) → length d ≡ a → length f ≡ k → a + k ≤ length xs → Begun (d ++ f) xs (putMid a k s f)
+  begun-part f a k h l w =
+      let m : length (d ++ f) ≡ a + k = simp length-append (omega arith) in
+      record {
+        within = omega arith;
+        is =
+            ap (λ (r : List ℕ). putMid a k r f) (inv .is)
+            ∙ rw (take-at d (drop (length d) xs) a h, drop-at d (drop (length d) xs) a h, h, drop-drop k a xs, m) (sym (append-assoc d f (drop (a + k) xs)));
+      }
+
+  begun-front : (n : ℕ) → length d ≡ n → take n s ≡ d
+  begun-front n h = ap (take n) (inv .is) ∙ take-at d (drop (length d) xs) n h
+
+  begun-all : length d ≡ length xs → s ≡ d
+  begun-all h = inv .is ∙ rw (drop-of-length-le xs {i = length d} (omega arith)) (append-nil d)
+
+-- ---- a slot written field by field
+
+-- the content's fields, one after another
+regroup : (front v s : List ℕ) (k n : ℕ) → ((front ++ (k ∷ [])) ++ (n ∷ [])) ++ (v ++ s) ≡ front ++ (pad 1 (k ∷ []) ++ pad 1 (n ∷ []) ++ v ++ s)
+regroup front v s k n = rw (pad-one k, pad-one n) (simp append-assoc)
+
+module _ (xs : List ℕ) (size : length xs ≡ slotSize) where
+  -- the kind, the value's length and the value, behind the path
+  pub content-written : (k : ℕ) (v : List ℕ) {y : List ℕ} → y ≡ field valueAt spareAt v ++ field spareAt slotSize []
+      → putMid valueAt (slotSize - valueAt) (set (set xs kindAt k) lengthAt (length v)) y ≡ take kindAt xs ++ contentBytes (record { kind = k; value = v })
+  unfolding contentBytes
+  content-written k v {y} e =
+      let front : List ℕ = take kindAt xs in
+      let d : List ℕ = (front ++ (k ∷ [])) ++ (length v ∷ []) in
+      let l : length front ≡ kindAt = length-take-le kindAt xs (omega arith) in
+      let m : length (front ++ (k ∷ [])) ≡ lengthAt = simp length-append (omega arith) in
+      let n : length d ≡ valueAt = simp length-append (omega arith) in
+      let r : length y ≡ 19 = ap length e ∙ length-append (pad 16 v) (pad 3 []) ∙ ap₂ (λ (i j : ℕ). i + j) (length-pad 16 v) (length-pad 3 []) in
+      let a : length (d ++ y) ≡ length xs = simp length-append (omega arith) in
+      let kind = begun-byte (begin kindAt xs (omega arith)) k kindAt l (omega arith) in
+      let whole = begun-part (begun-byte kind (length v) lengthAt m (omega arith)) y valueAt 19 n r (omega arith) in
+      begun-all whole a
+      ∙ ap (λ (t : List ℕ). d ++ t) e
+      ∙ regroup front (pad 16 v) (pad 3 []) k (length v)
+
+  -- the depth, the names and the labels, and the content behind them
+  pub slot-written : (p : List ℕ) (c : Content) {x y z : List ℕ} → x ≡ field namesAt labelsAt (gather nameBytes (stepsOf p))
+      → y ≡ field labelsAt kindAt (labels (stepsOf p))
+      → z ≡ take kindAt (putMid labelsAt (kindAt - labelsAt) (putMid namesAt (labelsAt - namesAt) (set xs 0 (length p / 3)) x) y) ++ contentBytes c
+      → z ≡ slotBytes (record { path = stepsOf p; content = c })
+  unfolding slotBytes pathBytes
+  slot-written p c {x} {y} e f g =
+      let d : List ℕ = length p / 3 ∷ [] in
+      let n : length x ≡ 12 = ap length e ∙ length-pad 12 (gather nameBytes (stepsOf p)) in
+      let m : length y ≡ 6 = ap length f ∙ length-pad 6 (labels (stepsOf p)) in
+      let l : length (d ++ x) ≡ labelsAt = simp length-append (omega arith) in
+      let a : length ((d ++ x) ++ y) ≡ kindAt = simp length-append (omega arith) in
+      let names = begun-part (begun-byte (begin 0 xs (omega arith)) (length p / 3) 0 refl (omega arith)) x namesAt 12 refl n (omega arith) in
+      let path = begun-part names y labelsAt 6 l m (omega arith) in
+      g
+      ∙ ap (λ (r : List ℕ). r ++ contentBytes c) (begun-front path kindAt a)
+      ∙ rw (pad-one (length (stepsOf p)), length-steps p, e, f)

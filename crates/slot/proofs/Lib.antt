@@ -1,0 +1,3 @@
+-- Laws of slots, for the proofs here and in the crates above.
+pub mod Reading
+pub mod Filling

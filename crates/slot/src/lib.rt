@@ -1,0 +1,204 @@
+// Slots: the 40 bytes of one element.
+mod writing;
+
+pub use writing::replace_content;
+pub use writing::write;
+ghost use mathlib.Core.Path.{_≡_};
+ghost use mathlib.Core.Bool.{_&&_};
+ghost use Prim.Native.Nat.{_+_, _*_, _<_, _≤_, min};
+ghost use lib.ListN.{length};
+ghost use Rattle.model.specs.Path.{endsIn, stepsOf, validPath};
+ghost use Rattle.model.specs.Value.{storable};
+ghost use Rattle.model.specs.Slot.{slotSize, depth, stepAt, valueLength, readPath, readContent, unusedZero};
+ghost use Rattle.path.specs.Steps.{mayFollow, allFollow, KeyOf};
+ghost use Rattle.path.specs.Common.{Compared};
+ghost use Rattle.slot.specs.Slot.{validSlot, Readable};
+
+// How two paths compare: how many first steps they share, and whether the first comes before the second.
+pub struct Meeting {
+    pub shared: usize,
+    pub before: bool,
+}
+
+// The number of steps of a slot's path.
+pub fn depth(slot: &[u8]) -> usize
+    requires { ⌜ length (now slot) ≡ slotSize ⌝ }
+    ensures { λ r. ⌜ (r ≡ depth (now (slot .entry))) × (r < 256) ⌝ }
+{
+    octets::index(slot[0])
+}
+
+// The length of a slot's value.
+pub fn value_length(slot: &[u8]) -> usize
+    requires { ⌜ length (now slot) ≡ slotSize ⌝ }
+    ensures { λ r. ⌜ (r ≡ valueLength (now (slot .entry))) × (r < 256) ⌝ }
+{
+    octets::index(slot[20])
+}
+
+// The label of step i of a slot's path.
+pub fn step_label(slot: &[u8], i: usize) -> u8
+    requires { ⌜ (length (now slot) ≡ slotSize) × (i < 6) ⌝ }
+    ensures { λ r. ⌜ r ≡ stepAt (now (slot .entry)) i .label ⌝ }
+{
+    slot[13 + i]
+}
+
+// The key of step i of a slot's path.
+pub fn slot_key(slot: &[u8], i: usize) -> u32
+    requires { ⌜ (length (now slot) ≡ slotSize) × (i < 6) ⌝ }
+    ensures { λ r. ⌜ KeyOf (stepAt (now (slot .entry)) i) r ⌝ }
+{
+    path::step_key(slot[1 + 2 * i], slot[1 + 2 * i + 1], slot[13 + i])
+}
+
+// Whether step i of a slot's path is valid and may follow one with the label before.
+fn step_follows(before: u8, slot: &[u8], i: usize) -> bool
+    requires { ⌜ (length (now slot) ≡ slotSize) × (i < 6) ⌝ }
+    ensures { λ r. ⌜ r ≡ mayFollow before (stepAt (now (slot .entry)) i) ⌝ }
+{
+    path::may_follow(before, slot[1 + 2 * i], slot[1 + 2 * i + 1], slot[13 + i])
+}
+
+// Whether the steps of a slot's path are valid and their labels ascend.
+fn steps_follow(slot: &[u8]) -> bool
+    requires { ⌜ Readable (now slot) ⌝ }
+    ensures { λ r. ⌜ r ≡ allFollow 0 (readPath (now (slot .entry))) ⌝ }
+{
+    let n = depth(slot);
+    let mut before: u8 = 0;
+    let mut i: usize = 0;
+    while i < n {
+        if !step_follows(before, slot, i) {
+            return false;
+        }
+        before = step_label(slot, i);
+        i += 1;
+    }
+    true
+}
+
+// Whether a slot's path is valid and ends in label n.
+fn path_valid(slot: &[u8], n: u8) -> bool
+    requires { ⌜ length (now slot) ≡ slotSize ⌝ }
+    ensures { λ r. ⌜ r ≡ (validPath (readPath (now (slot .entry))) && endsIn n (readPath (now (slot .entry)))) ⌝ }
+{
+    let d = depth(slot);
+    if d < 1 {
+        return false;
+    }
+    if 6 < d {
+        return false;
+    }
+    if !steps_follow(slot) {
+        return false;
+    }
+    step_label(slot, d - 1) == n
+}
+
+// Whether a slot's kind and value agree.
+fn content_valid(slot: &[u8]) -> bool
+    requires { ⌜ length (now slot) ≡ slotSize ⌝ }
+    ensures { λ r. ⌜ r ≡ storable (readContent (now (slot .entry))) ⌝ }
+{
+    let len = value_length(slot);
+    if 16 < len {
+        return false;
+    }
+    let end = 21 + len;
+    kind::is_allowed(octets::wide(slot[19]), &slot[21..end])
+}
+
+// Whether the bytes of a slot that its path and value leave unused are 0.
+fn unused_zero(slot: &[u8]) -> bool
+    requires { ⌜ Readable (now slot) × (valueLength (now slot) ≤ 16) ⌝ }
+    ensures { λ r. ⌜ r ≡ unusedZero (now (slot .entry)) ⌝ }
+{
+    let d = depth(slot);
+    let names = 1 + 2 * d;
+    let labels = 13 + d;
+    let value = 21 + value_length(slot);
+    if !octets::is_zero(&slot[names..13]) {
+        return false;
+    }
+    if !octets::is_zero(&slot[labels..19]) {
+        return false;
+    }
+    if !octets::is_zero(&slot[value..37]) {
+        return false;
+    }
+    octets::is_zero(&slot[37..40])
+}
+
+// Whether a slot holds a valid element of label n, its unused bytes zero.
+pub fn is_valid(slot: &[u8], n: u8) -> bool
+    requires { ⌜ length (now slot) ≡ slotSize ⌝ }
+    ensures { λ r. ⌜ r ≡ validSlot n (now (slot .entry)) ⌝ }
+{
+    if !path_valid(slot, n) {
+        return false;
+    }
+    if !content_valid(slot) {
+        return false;
+    }
+    unused_zero(slot)
+}
+
+// The lesser of two numbers.
+fn least(x: usize, y: usize) -> usize
+    ensures { λ r. ⌜ r ≡ min x y ⌝ }
+{
+    if x < y { x } else { y }
+}
+
+// The paths of two slots compared, in one pass.
+pub fn compare(a: &[u8], b: &[u8]) -> Meeting
+    requires { ⌜ Readable (now a) × Readable (now b) ⌝ }
+    ensures { λ r. ⌜ Compared (readPath (now (a .entry))) (readPath (now (b .entry))) (r .shared) (r .before) ⌝ }
+{
+    let x = depth(a);
+    let y = depth(b);
+    let n = least(x, y);
+    let mut i: usize = 0;
+    while i < n {
+        let k = slot_key(a, i);
+        let l = slot_key(b, i);
+        if k != l {
+            return Meeting {
+                shared: i,
+                before: k < l,
+            };
+        }
+        i += 1;
+    }
+    Meeting {
+        shared: i,
+        before: x < y,
+    }
+}
+
+// The path of a slot compared with a lent path, in one pass.
+pub fn compare_path(a: &[u8], path: &[u8]) -> Meeting
+    requires { ⌜ Readable (now a) ⌝ }
+    ensures { λ r. ⌜ Compared (readPath (now (a .entry))) (stepsOf (now (path .entry))) (r .shared) (r .before) ⌝ }
+{
+    let x = depth(a);
+    let y = path.len() / 3;
+    let n = least(x, y);
+    let mut i: usize = 0;
+    while i < n {
+        let k = slot_key(a, i);
+        let l = path::lent_key(path, i);
+        if k != l {
+            return Meeting {
+                shared: i,
+                before: k < l,
+            };
+        }
+        i += 1;
+    }
+    Meeting {
+        shared: i,
+        before: x < y,
+    }
+}

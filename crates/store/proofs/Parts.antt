@@ -1,0 +1,81 @@
+-- A store's partitions as the code reads them.
+use mathlib.Core.Path.{_≡_, sym, ap, _∙_}
+use mathlib.Core.Bool.{Bool, true, false, not, _&&_}
+use mathlib.Core.List.{List}
+use Prim.Native.Nat.{ℕ, _+_, _-_, _*_, _<_}
+use native.Mathlib.Omega.{arith}
+use borrow.Author.Tests.{not-true, not-false}
+use lib.ListN.{length, take, drop, length-drop}
+use lib.Seq.{length-take-le}
+use lib.Dec.{T}
+use Rattle.model.specs.Lists.{any}
+use Rattle.model.specs.Label.{dominates}
+use Rattle.model.specs.Partition.{partitionSize, readPartition, wellFormed}
+use Rattle.model.specs.Store.{storeSize, partition}
+use Rattle.model.specs.Model.{held, raw, isHeld, elements, openCell, openModel, ownSet}
+use Rattle.model.specs.Call.{someRaw}
+use Rattle.model.proofs.Bools.{decide, cond-yes, cond-no, is-true, is-false}
+use Rattle.model.proofs.Dominance.{label-lt, dominates-lower}
+use Rattle.model.proofs.Stores.{yes-has, partition-part}
+use Rattle.model.proofs.Walks.{Left, left-start}
+
+-- the part that is lent
+pub dominated-lt : (s n : ℕ) → T (dominates s n) → n < 32
+dominated-lt s n t = label-lt n (dominates-lower s n t)
+
+module _ (s n : ℕ) (b : List ℕ) (size : length b ≡ storeSize) (t : T (dominates s n)) where
+  pub part-is : take (1284 * n + 1284 - 1284 * n) (drop (1284 * n) b) ≡ partition n b
+  part-is = sym (partition-part n b (yes-has n b size (dominates-lower s n t)))
+
+  pub part-size : length (partition n b) ≡ partitionSize
+  part-size =
+      let h : n < 32 = dominated-lt s n t in
+      let w : 1284 * n + 1284 - 1284 * n ≡ 1284 = omega arith in
+      ap length (sym part-is) ∙ ap (λ (k : ℕ). length (take k (drop (1284 * n) b))) w ∙ length-take-le 1284 (drop (1284 * n) b) (simp length-drop (omega arith))
+
+-- a cell is held if its partition is well formed
+pub held-formed : (n : ℕ) (x : List ℕ) → isHeld (openCell n x) ≡ wellFormed n x
+unfolding openCell isHeld
+held-formed n x =
+    decide (wellFormed n x)
+    (λ (t : T (wellFormed n x)). ap isHeld (cond-yes (wellFormed n x) (held (readPartition x)) (raw x) t) ∙ sym (is-true (wellFormed n x) t))
+    (λ (t : T (not (wellFormed n x))). ap isHeld (cond-no (wellFormed n x) (held (readPartition x)) (raw x) t) ∙ sym (is-false (wellFormed n x) t))
+
+-- and then the model keeps its elements
+pub formed-set : (n : ℕ) (b : List ℕ) → T (wellFormed n (partition n b)) → ownSet n (openModel b) ≡ readPartition (partition n b)
+unfolding ownSet openModel openCell elements
+formed-set n b t = ap elements (cond-yes (wellFormed n (partition n b)) (held (readPartition (partition n b))) (raw (partition n b)) t)
+
+-- a partition that the subject does not dominate does not matter
+module _ (s n : ℕ) (b : List ℕ) {r : Bool} (e : r ≡ dominates s n) where
+  pub not-dominated : not r ≡ true → false ≡ (dominates s n && not (isHeld (openModel b .cell n)))
+  not-dominated t = let q : dominates s n ≡ false = sym e ∙ not-true r t in rw q
+
+  pub is-dominated : not r ≡ false → T (dominates s n)
+  is-dominated t = let q : dominates s n ≡ true = sym e ∙ not-false r t in rw q tt
+
+  -- of one that he does, its well-formedness
+  pub by-formed : not r ≡ false → {x : List ℕ} {w : Bool} → (x ≡ partition n b) × (length x ≡ partitionSize) → w ≡ wellFormed n x
+      → not w ≡ (dominates s n && not (isHeld (openModel b .cell n)))
+  unfolding openModel
+  by-formed t f g =
+      let q : dominates s n ≡ true = sym e ∙ not-false r t in
+      sym (rw q (ap not (held-formed n (partition n b) ∙ ap (wellFormed n) (sym (f .0)) ∙ sym g)))
+
+-- the part that starts at the label's index k
+pub part-lent : (s n : ℕ) (b : List ℕ) {k : ℕ} → length b ≡ storeSize → T (dominates s n) → (k ≡ n) × (k < 256)
+    → (take (1284 * k + 1284 - 1284 * k) (drop (1284 * k) b) ≡ partition n b) × (length (take (1284 * k + 1284 - 1284 * k) (drop (1284 * k) b)) ≡ partitionSize)
+part-lent s n b {k} size t e =
+    let p : take (1284 * k + 1284 - 1284 * k) (drop (1284 * k) b) ≡ partition n b =
+    ap (λ (i : ℕ). take (1284 * i + 1284 - 1284 * i) (drop (1284 * i) b)) (e .0) ∙ part-is s n b size t in
+    (p, ap length p ∙ part-size s n b size t)
+
+-- ---- over the labels
+
+-- the subject dominates label n, whose partition is not well formed
+abbrev pub rawAt : ℕ → List ℕ → ℕ → Bool
+rawAt s b n = dominates s n && not (isHeld (openModel b .cell n))
+
+pub raw-start : (s : ℕ) (b : List ℕ) → Left (λ n. n) (any (rawAt s b)) (someRaw s (openModel b)) 32 0
+unfolding someRaw
+raw-start s b = left-start (λ n. n) (any (rawAt s b)) 32

@@ -1,0 +1,90 @@
+-- What a subject sees of a store, read partition by partition.
+use mathlib.Core.Path.{_≡_, refl, sym, ap, _∙_}
+use mathlib.Core.Bool.{Bool, true, false, not, cond, _&&_, _||_, or-assoc}
+use mathlib.Core.List.{List, [], _∷_, _++_}
+use Prim.Native.Nat.{ℕ, _/_, _≤_, _<_}
+use native.Mathlib.Omega.{arith}
+use borrow.Author.Tests.{not-true, not-false}
+use lib.ListN.{length}
+use lib.Dec.{T}
+use Rattle.model.specs.Lists.{any, gather}
+use Rattle.model.specs.Label.{labels, dominates}
+use Rattle.model.specs.Path.{Step, isPrefix, stepsOf}
+use Rattle.model.specs.Element.{Element}
+use Rattle.model.specs.Partition.{partitionSize, readPartition, wellFormed}
+use Rattle.model.specs.Store.{partition}
+use Rattle.model.specs.Model.{isHeld, openCell, openModel, ownSet}
+use Rattle.model.specs.View.{visible, reaches, inView}
+use Rattle.model.specs.Call.{someRaw}
+use Rattle.model.proofs.Bools.{cond-yes}
+use Rattle.model.proofs.Members.{not-any}
+use Rattle.model.proofs.Walks.{Left, left-start, in-range}
+use Rattle.path.proofs.Steps.{length-steps}
+use Rattle.partition.specs.Place.{Formed}
+use Rattle.store.specs.Opened.{Opened, belowAt}
+use Rattle.store.proofs.Parts.{rawAt, held-formed, formed-set, dominated-lt}
+
+-- a partition that the subject dominates is well formed
+pub opened-formed : {b : List ℕ} {s : ℕ} → Opened b s → (n : ℕ) → T (dominates s n) → T (wellFormed n (partition n b))
+unfolding someRaw openModel
+opened-formed {b} {s} o n t =
+    let h : T (not (rawAt s b n)) = not-any (rawAt s b) labels (o .formed) (in-range (λ k. k) 0 32 n (omega arith) (dominated-lt s n t)) in
+    rw (← (held-formed n (partition n b))) (keeps (dominates s n) (isHeld (openCell n (partition n b))) t h)
+  where
+    keeps : (a c : Bool) → T a → T (not (a && not c)) → T c
+    keeps true true u v = tt
+    keeps true false u v = v
+    keeps false c u v = absurd u
+
+-- and its elements are those that the model keeps
+pub opened-set : {b : List ℕ} {s : ℕ} → Opened b s → (n : ℕ) → T (dominates s n) → ownSet n (openModel b) ≡ readPartition (partition n b)
+opened-set {b} o n t = formed-set n b (opened-formed o n t)
+
+-- one label
+module _ {b : List ℕ} {s : ℕ} (o : Opened b s) (p : List Step) (n : ℕ) {r : Bool} (e : r ≡ dominates s n) where
+  pub not-below : not r ≡ true → false ≡ belowAt s b p n
+  not-below t = let q : dominates s n ≡ false = sym e ∙ not-true r t in rw q
+
+  module _ (yes : not r ≡ false) where
+    pub dominated : T (dominates s n)
+    dominated = let q : dominates s n ≡ true = sym e ∙ not-false r yes in rw q tt
+
+    pub part-formed : {x : List ℕ} → (x ≡ partition n b) × (length x ≡ partitionSize) → Formed x
+    part-formed f = record { label = n; is = rw (f .0) (opened-formed o n dominated) }
+
+    pub by-below : {x : List ℕ} {w : Bool} → (x ≡ partition n b) × (length x ≡ partitionSize) → w ≡ any (λ e. isPrefix p (e .path)) (readPartition x) → w ≡ belowAt s b p n
+    by-below f g =
+        g
+        ∙ ap (λ (l : List ℕ). any (λ e. isPrefix p (e .path)) (readPartition l)) (f .0)
+        ∙ sym
+        (ap (λ (l : List Element). any (λ e. isPrefix p (e .path)) l)
+        (cond-yes (dominates s n) (ownSet n (openModel b)) [] dominated ∙ opened-set o n dominated))
+
+-- all labels
+
+any-append : (q : Element → Bool) (l m : List Element) → any q (l ++ m) ≡ (any q l || any q m)
+any-append q [] m = refl
+any-append q (x ∷ l) m = ap (λ (t : Bool). q x || t) (any-append q l m) ∙ sym (or-assoc (q x) (any q l) (any q m))
+
+any-gather : (q : Element → Bool) (f : ℕ → List Element) (ns : List ℕ) → any q (gather f ns) ≡ any (λ n. any q (f n)) ns
+any-gather q f [] = refl
+any-gather q f (n ∷ ns) = any-append q (f n) (gather f ns) ∙ ap (λ (t : Bool). any q (f n) || t) (any-gather q f ns)
+
+-- the empty path is in view
+pub view-root : (s : ℕ) (b p : List ℕ) → length p < 3 → true ≡ inView s (openModel b) (stepsOf p)
+unfolding inView
+view-root s b p h = go (stepsOf p) (length-steps p)
+  where
+    go : (q : List Step) → length q ≡ length p / 3 → true ≡ reaches (visible s (openModel b)) q
+    go [] e = refl
+    go (a ∷ q) e = absurd (omega arith)
+
+pub view-start : (s : ℕ) (b p : List ℕ) → 3 ≤ length p → Left (λ n. n) (any (belowAt s b (stepsOf p))) (inView s (openModel b) (stepsOf p)) 32 0
+unfolding inView visible
+view-start s b p h = go (stepsOf p) (length-steps p)
+  where
+    go : (q : List Step) → length q ≡ length p / 3 → Left (λ n. n) (any (belowAt s b q)) (reaches (visible s (openModel b)) q) 32 0
+    go [] e = absurd (omega arith)
+    go (a ∷ q) e =
+        rw (any-gather (λ d. isPrefix (a ∷ q) (d .path)) (λ n. cond (dominates s n) (ownSet n (openModel b)) []) labels)
+        (left-start (λ n. n) (any (belowAt s b (a ∷ q))) 32)

@@ -1,0 +1,17 @@
+-- `store::holds_below`: dominance first, then the partition.
+use borrow.Author.Needs.{needs}
+use Rattle.model.specs.Path.{stepsOf}
+use Rattle.store.proofs.Viewing.{not-below, dominated, part-formed, by-below}
+use Rattle.store.proofs.holds_below.Statement.{statement}
+use Rattle.store.proofs.holds_below.Tie as tie
+
+pub holds-below-spec : {M : Type 1} → statement M
+holds-below-spec =
+    tie.close
+    (tie.spec
+    (λ c. search needs)  -- dominates-requires
+    (λ c. not-below (c .before .before .before .before .pre) (stepsOf (c .before .before .before .before .args .path .now)) _ (c .before .dominates .ensures) (c .if1 .taken))  -- returns
+    (λ c κs. (c .before .before .before .before .pre .size, dominated (c .before .before .before .before .pre) (stepsOf (c .before .before .before .before .args .path .now)) _ (c .before .dominates .ensures) (c .if1 .left)))  -- partition-of-requires
+    (λ c κs. part-formed (c .before .before .before .before .before .pre) (stepsOf (c .before .before .before .before .before .args .path .now)) _ (c .before .before .dominates .ensures) (c .before .if1 .left) (c .partition-of .ensures))  -- has-below-requires
+    (λ c. by-below (c .before .before .before .before .before .before .pre) (stepsOf (c .before .before .before .before .before .before .args .path .now)) _ (c .before .before .before .dominates .ensures) (c .before .before .if1 .left) (c .before .partition-of .ensures) (c .has-below .ensures))  -- returns-2
+    )

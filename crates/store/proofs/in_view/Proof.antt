@@ -1,0 +1,34 @@
+-- `store::in_view`: over the labels.
+use borrow.Author.Needs.{needs}
+use Prim.Native.Nat.{_-_}
+use Rattle.model.specs.Lists.{any}
+use Rattle.model.specs.Path.{stepsOf}
+use Rattle.model.specs.Model.{openModel}
+use Rattle.model.specs.View.{inView}
+use Rattle.model.proofs.Walks.{Left, any-found, any-next, any-end}
+use Rattle.store.specs.Opened.{belowAt}
+use Rattle.store.proofs.Viewing.{view-root, view-start}
+use Rattle.store.proofs.in_view.Statement.{statement}
+use Rattle.store.proofs.in_view.Tie as tie
+
+abbrev Inv-loop : tie.InvT-loop
+Inv-loop store subject path n₀ n = Left (λ n. n) (any (belowAt subject store (stepsOf path))) (inView subject (openModel store) (stepsOf path)) 32 n
+
+abbrev μ-loop : tie.MeasureT-loop
+μ-loop store subject path n₀ n = 32 - n
+
+pub in-view-spec : {M : Type 1} → statement M
+in-view-spec =
+    tie.close
+    (tie.spec
+    Inv-loop
+    μ-loop
+    (λ c. view-root _ _ (c .before .before .before .args .path .now) (c .if1 .taken))  -- returns
+    (λ c. view-start _ _ (c .before .before .before .args .path .now) (c .if1 .left))  -- loop-holds
+    (λ c. search needs)  -- holds-below-requires
+    (λ c. any-found (c .before .before .before .loop .inv) (c .before .before .loop-test .taken) (c .before .holds-below .ensures) (c .if2 .taken))  -- returns-2
+    (λ c. search needs)  -- add-n
+    (λ c. search needs)  -- loop-less
+    (λ c. any-next (c .before .before .before .loop .inv) (c .before .before .loop-test .taken) (c .before .holds-below .ensures) (c .if2 .left))  -- loop-again
+    (λ c. any-end (c .before .loop .inv) (c .loop-test .left))  -- returns-3
+    )

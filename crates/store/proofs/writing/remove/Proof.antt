@@ -1,0 +1,25 @@
+-- `store::remove`: the subject's partition is searched, then lent.
+use borrow.Author.Needs.{needs}
+use native.Mathlib.Omega.{arith}
+use Rattle.model.specs.Path.{stepsOf}
+use Rattle.model.proofs.Dominance.{label-lt}
+use Rattle.store.proofs.Lending.{own-dominated, own-part, own-lent, own-place, own-removed}
+use Rattle.store.proofs.writing.remove.Statement.{statement}
+use Rattle.store.proofs.writing.remove.Tie as tie
+
+pub remove-spec : {M : Type 1} → statement M
+remove-spec =
+    tie.close
+    (tie.spec
+    (λ c κs. (c .before .before .before .pre .size, own-dominated (c .before .before .before .pre)))  -- partition-of-requires
+    (λ c κs. own-part (c .before .before .before .before .pre) (c .partition-of .ensures .0))  -- find-requires
+    (λ c. search needs)  -- index-requires
+    (λ c. search needs)  -- mul-start
+    (λ c. search needs)  -- add-end
+    (λ c. search needs)  -- sub-remove
+    (λ c. search needs)  -- part-remove-start
+    (λ c. omega (arith, label-lt _ (c .before .before .before .before .before .before .pre .label), c .before .before .before .before .before .before .pre .size, c .index .ensures .0))  -- part-remove-end
+    (λ c κs. (own-part (c .before .before .before .before .before .before .before .pre) (own-lent (c .before .before .before .before .before .before .before .pre) (c .before .index .ensures)), own-place (c .before .before .before .before .before .before .before .pre) (c .before .index .ensures) (stepsOf (c .before .before .before .before .before .before .before .args .path .now)) (c .before .before .before .partition-of .ensures .0) (c .before .before .find .ensures)))  -- remove-requires
+    (λ c. search needs)  -- same-length
+    (λ c. own-removed (c .before .before .before .before .before .before .before .before .before .before .pre) (c .before .before .before .before .index .ensures) (stepsOf (c .before .before .before .before .before .before .before .before .before .before .args .path .now)) (c .before .before .remove .ensures))  -- returns
+    )

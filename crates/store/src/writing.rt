@@ -1,0 +1,38 @@
+// Writing into a store: the subject's own partition is lent, and no other part of the store.
+use crate::partition_of;
+ghost use mathlib.Core.Path.{_≡_};
+ghost use Prim.Native.Nat.{_≤_};
+ghost use lib.ListN.{length};
+ghost use Rattle.model.specs.Path.{stepsOf};
+ghost use Rattle.model.specs.Element.{remove};
+ghost use Rattle.model.specs.Partition.{layout};
+ghost use Rattle.model.specs.Store.{replace};
+ghost use Rattle.model.specs.Model.{openModel, ownSet};
+ghost use Rattle.model.specs.Call.{extending, added};
+ghost use Rattle.store.specs.Opened.{Own, Vacant};
+
+// Removes the path and all that extends it from the subject's partition: how many elements went.
+pub fn remove(store: &mut [u8], subject: u8, path: &[u8]) -> usize
+    requires { ⌜ Own (now store) subject ⌝ }
+    ensures { λ r. ⌜ r ≡ extending (stepsOf (now (path .entry))) (ownSet subject (openModel (now (store .entry)))) ⌝ }
+    ensures { λ _. ⌜ now (store .exit) ≡ replace subject (layout (remove (stepsOf (now (path .entry))) (ownSet subject (openModel (now (store .entry)))))) (now (store .entry)) ⌝ }
+{
+    let f = partition::find(partition_of(store, subject, subject), path);
+    let at = f.at;
+    let start = 1284 * octets::index(subject);
+    let end = start + 1284;
+    partition::remove(&mut store[start..end], at, path)
+}
+
+// Puts an element into the subject's partition, which has room and no element at the path.
+pub fn insert(store: &mut [u8], subject: u8, path: &[u8], kind: u8, value: &[u8])
+    requires { ⌜ Vacant (now store) subject (stepsOf (now path)) ⌝ }
+    requires { ⌜ (length (now path) ≤ 20) × (length (now value) ≤ 16) ⌝ }
+    ensures { λ _. ⌜ now (store .exit) ≡ replace subject (layout (added (stepsOf (now (path .entry))) (record { kind = kind; value = now (value .entry) }) (ownSet subject (openModel (now (store .entry)))))) (now (store .entry)) ⌝ }
+{
+    let f = partition::find(partition_of(store, subject, subject), path);
+    let at = f.at;
+    let start = 1284 * octets::index(subject);
+    let end = start + 1284;
+    partition::insert(&mut store[start..end], at, path, kind, value);
+}
