@@ -1,26 +1,35 @@
 -- What a call has done, refused or not.
-use mathlib.Core.Path.{_≡_, refl, sym, ap, _∙_}
+use mathlib.Core.Path.{_≡_, sym, ap, ap₂, _∙_}
 use mathlib.Core.Option.{none, some}
 use mathlib.Core.List.{List, [], _++_}
-use Prim.Native.Nat.{ℕ}
-use lib.ListN.{length, drop}
+use Prim.Native.Nat.{ℕ, zero, suc, _+_, _≤_, _<_}
+use native.Mathlib.Omega.{arith}
+use lib.ListN.{length, take, drop}
+use lib.Seq.{take-at, drop-at, length-take-le, drop-append-add}
 use lib.Dec.{T}
-use Rattle.model.specs.Path.{stepsOf}
-use Rattle.model.specs.Element.{remove}
-use Rattle.model.specs.Partition.{layout}
-use Rattle.model.specs.Store.{partition, replace}
-use Rattle.model.specs.Model.{isHeld, openModel, ownSet}
-use Rattle.model.specs.Call.{Answer, Call, Op, delete, table, callerRows, opRows, subjectOf, refusal, refused, done, extending, effect}
-use Rattle.model.specs.Run.{answerOf, storeAfter, outputAfter}
-use Rattle.model.proofs.Dominance.{dominates-refl}
-use Rattle.model.proofs.Restriction.{admitted}
+use mir.Facts.{leb-no}
+use Rattle.model.specs.Path.{stepsOf, endsIn, key}
+use Rattle.model.specs.Value.{Content, allowed, bringable}
+use Rattle.model.specs.Element.{Element, contains, remove}
+use Rattle.model.specs.Partition.{partitionSize, layout}
+use Rattle.model.specs.Store.{partitionStart, hasPartition, replace}
+use Rattle.model.specs.Model.{held, isHeld, elements, openCell, openModel, ownSet, live}
+use Rattle.model.specs.Call.{Answer, Call, insert, update, delete, goodPath, table, added, callerRows, opRows, subjectOf, refusal, refused, done, extending, effect}
+use Rattle.model.specs.Run.{answerOf, outputAfter}
+use Rattle.model.proofs.Bools.{not-not}
+use Rattle.model.proofs.Slots.{allowed-length}
+use Rattle.model.proofs.Partitions.{ValidSet, length-layout}
+use Rattle.model.proofs.Sets.{remove-valid, remove-fewer, remove-lacks}
+use Rattle.model.proofs.Stores.{Has, has, yes-has, replace-placed, length-replace, has-replace, partition-own}
+use Rattle.model.proofs.Restriction.{live-own, Admitted, admitted}
+use Rattle.model.proofs.Keeps.{open-valid}
+use Rattle.model.proofs.Noninterference.{open-layout}
 use Rattle.model.proofs.Refusals.{answer-refused, store-refused, answer-done, store-done}
-use Rattle.store.specs.Opened.{Opened, Own}
-use Rattle.store.proofs.Parts.{held-formed}
-use Rattle.store.proofs.Viewing.{opened-formed}
+use Rattle.path.proofs.Steps.{good-path}
+use Rattle.store.specs.Opened.{Opened, Vacant}
 use Rattle.dossier.specs.Did.{Did}
 use Rattle.dossier.specs.Rows.{rowCode, by}
-use Rattle.dossier.proofs.Walking.{numbered, code-none, code-some}
+use Rattle.dossier.proofs.Walking.{numbered, code-none, code-some, opened-own, Brought}
 
 -- a refused call leaves the store and the output
 pub did-refused : (c : Call) (b o : List ℕ) {k : ℕ} → k ≡ rowCode (table c (openModel b)) → (k ≡ 0 → ⊥) → Did c b o k 0 b o
@@ -33,16 +42,6 @@ did-refused c b o {k} e h =
       count-is = sym (ap (λ (x : Answer). x .count) a);
       store-is = sym (store-refused c b (rowCode (table c (openModel b))) q);
       output-is = sym (ap (λ (x : Answer). x .written ++ drop (length (x .written)) o) a);
-    }
-
--- an open store has its subject's own partition
-pub opened-own : {b : List ℕ} {s : ℕ} → Opened b s → Own b s
-unfolding openModel
-opened-own {b} {s} o =
-    record {
-      size = o .size;
-      label = o .label;
-      formed = rw (held-formed s (partition s b)) (opened-formed o s (dominates-refl s (o .label)));
     }
 
 -- ---- a delete that is not refused
@@ -70,4 +69,162 @@ module _ (s : ℕ) (b p : List ℕ) (z : 0 ≡ rowCode (table (by s (delete p)) 
         count-is = g .0 ∙ sym (ap (λ (y : Answer). y .count) a);
         store-is = g .1 ∙ sym (store-done (by s (delete p)) b delete-none);
         output-is = sym (ap (λ (y : Answer). y .written ++ drop (length (y .written)) []) a);
+      }
+
+-- ---- an insert that is not refused
+
+-- a kind that has a value is a byte
+allowed-kind : (k : ℕ) (v : List ℕ) → T (allowed k v) → k < 256
+unfolding allowed
+allowed-kind zero v t = omega arith
+allowed-kind (suc zero) v t = omega arith
+allowed-kind (suc (suc zero)) v t = omega arith
+allowed-kind (suc (suc (suc k))) v t = absurd t
+
+pub brought-kind : (p : List ℕ) (c : Content) → Brought p c → c .kind < 256
+unfolding bringable
+brought-kind p c h = allowed-kind (c .kind) (c .value) (h .content)
+
+module _ (s : ℕ) (b p : List ℕ) (c : Content) (z : 0 ≡ rowCode (table (by s (insert p c)) (openModel b))) where
+  insert-numbered : T (numbered (table (by s (insert p c)) (openModel b)))
+  unfolding table callerRows opRows subjectOf
+  insert-numbered = tt
+
+  insert-none : refusal (table (by s (insert p c)) (openModel b)) ≡ none
+  insert-none = code-none (table (by s (insert p c)) (openModel b)) insert-numbered (sym z)
+
+  insert-admitted : Admitted (by s (insert p c)) (openModel b)
+  insert-admitted = admitted (by s (insert p c)) (openModel b) insert-none
+
+  pub insert-opened : Opened b s
+  unfolding openModel subjectOf
+  insert-opened = record { size = insert-admitted .size; label = insert-admitted .label; formed = insert-admitted .sound }
+
+  pub insert-brought : Brought p c
+  unfolding opRows
+  insert-brought =
+      record { path = not-not (goodPath p) (insert-admitted .rows .0); content = not-not (bringable c) (insert-admitted .rows .1 .0) }
+
+  pub insert-vacant : Vacant b s (stepsOf p)
+  unfolding opRows subjectOf
+  insert-vacant =
+      let own : T (endsIn s (stepsOf p)) = not-not (endsIn s (stepsOf p)) (insert-admitted .rows .1 .1 .0) in
+      record {
+        own = opened-own insert-opened;
+        free = leb-no (insert-admitted .rows .1 .1 .1 .1 .1 .0);
+        lacks = rw (live-own s (openModel b) (stepsOf p) own) at (insert-admitted .rows .1 .1 .1 .1 .0);
+      }
+
+  pub insert-did : {x : List ℕ} → x ≡ replace s (layout (added (stepsOf p) c (ownSet s (openModel b)))) b → Did (by s (insert p c)) b [] 0 0 x []
+  unfolding outputAfter effect done subjectOf
+  insert-did {x} g =
+      let a = answer-done (by s (insert p c)) b insert-none in
+      record {
+        number-is = sym (ap (λ (y : Answer). y .number) a);
+        count-is = sym (ap (λ (y : Answer). y .count) a);
+        store-is = g ∙ sym (store-done (by s (insert p c)) b insert-none);
+        output-is = sym (ap (λ (y : Answer). y .written ++ drop (length (y .written)) []) a);
+      }
+
+-- what was brought is short enough to be written
+pub brought-short : (p : List ℕ) (c : Content) → Brought p c → (length p ≤ 20) × (length (c .value) ≤ 16)
+unfolding bringable
+brought-short p c h = (omega (arith, good-path p (h .path) .few), allowed-length (c .kind) (c .value) (h .content))
+
+-- ---- an update that is not refused
+
+-- a partition replaced twice
+replace-twice : (n : ℕ) (x y b : List ℕ) → T (hasPartition n b) → length y ≡ partitionSize → replace n x (replace n y b) ≡ replace n x b
+replace-twice n x y b t fit =
+    let h : Has n b = has n b t in
+    let lf : length (take (partitionStart n) b) ≡ partitionStart n = length-take-le (partitionStart n) b (omega (arith, h .size, h .label)) in
+    let ls : length (take (partitionStart n) b) + partitionSize ≡ partitionStart n + partitionSize = omega arith in
+    replace-placed n x (replace n y b) (rw (has-replace n n y b fit) t)
+    ∙ ap (λ (l : List ℕ). take (partitionStart n) l ++ (x ++ drop (partitionStart n + partitionSize) l)) (replace-placed n y b t)
+    ∙ ap₂ (λ (u v : List ℕ). u ++ (x ++ v))
+    (take-at (take (partitionStart n) b) _ (partitionStart n) lf)
+    (ap (λ (k : ℕ). drop k (take (partitionStart n) b ++ (y ++ drop (partitionStart n + partitionSize) b))) (sym ls)
+    ∙ drop-append-add (take (partitionStart n) b) _ partitionSize
+    ∙ drop-at y _ partitionSize fit)
+    ∙ sym (replace-placed n x b t)
+
+module _ (s : ℕ) (b p : List ℕ) (c : Content) (z : 0 ≡ rowCode (table (by s (update p c)) (openModel b))) where
+  update-numbered : T (numbered (table (by s (update p c)) (openModel b)))
+  unfolding table callerRows opRows subjectOf
+  update-numbered = tt
+
+  update-none : refusal (table (by s (update p c)) (openModel b)) ≡ none
+  update-none = code-none (table (by s (update p c)) (openModel b)) update-numbered (sym z)
+
+  update-admitted : Admitted (by s (update p c)) (openModel b)
+  update-admitted = admitted (by s (update p c)) (openModel b) update-none
+
+  pub update-opened : Opened b s
+  unfolding openModel subjectOf
+  update-opened = record { size = update-admitted .size; label = update-admitted .label; formed = update-admitted .sound }
+
+  pub update-brought : Brought p c
+  unfolding opRows
+  update-brought =
+      record { path = not-not (goodPath p) (update-admitted .rows .0); content = not-not (bringable c) (update-admitted .rows .1 .0) }
+
+  update-live : T (contains (ownSet s (openModel b)) (stepsOf p))
+  unfolding opRows subjectOf
+  update-live =
+      let own : T (endsIn s (stepsOf p)) = not-not (endsIn s (stepsOf p)) (update-admitted .rows .1 .1 .0) in
+      rw (live-own s (openModel b) (stepsOf p) own) at (not-not (live (openModel b) (stepsOf p)) (update-admitted .rows .1 .1 .1 .0))
+
+  -- what is left of the subject's set, and the store with it
+  left : List Element
+  left = remove (stepsOf p) (ownSet s (openModel b))
+
+  left-valid : ValidSet key s left
+  unfolding left
+  left-valid = remove-valid s (stepsOf p) (ownSet s (openModel b)) (open-valid b s)
+
+  own-partition : T (hasPartition s b)
+  own-partition = yes-has s b (update-opened .size) (update-opened .label)
+
+  left-cell : openModel (replace s (layout left) b) .cell s ≡ held left
+  unfolding openModel
+  left-cell = ap (openCell s) (partition-own s (layout left) b own-partition (length-layout left)) ∙ open-layout s left left-valid
+
+  left-set : ownSet s (openModel (replace s (layout left) b)) ≡ left
+  unfolding ownSet elements
+  left-set = ap elements left-cell
+
+  pub update-vacant : {x : List ℕ} → x ≡ replace s (layout (remove (stepsOf p) (ownSet s (openModel b)))) b → Vacant x s (stepsOf p)
+  unfolding left isHeld
+  update-vacant e =
+      let few : length (remove (stepsOf p) (ownSet s (openModel b))) < length (ownSet s (openModel b)) = remove-fewer s (stepsOf p) (ownSet s (openModel b)) update-live in
+      let most : length (ownSet s (openModel b)) ≤ 32 = open-valid b s .few in
+      rw e
+      (record {
+        own =
+            record {
+              size = length-replace s (layout left) b (length-layout left) ∙ update-opened .size;
+              label = update-opened .label;
+              formed = rw left-cell tt;
+            };
+        free = rw left-set (omega arith);
+        lacks = rw left-set (remove-lacks s (stepsOf p) (ownSet s (openModel b)));
+      })
+
+  pub update-did : {r : ℕ} {x y : List ℕ}
+      → (r ≡ extending (stepsOf p) (ownSet s (openModel b))) × (x ≡ replace s (layout (remove (stepsOf p) (ownSet s (openModel b)))) b)
+      → y ≡ replace s (layout (added (stepsOf p) c (ownSet s (openModel x)))) x
+      → Did (by s (update p c)) b [] 0 r y []
+  unfolding outputAfter effect done subjectOf left
+  update-did {r} {x} {y} g h =
+      let a = answer-done (by s (update p c)) b update-none in
+      record {
+        number-is = sym (ap (λ (w : Answer). w .number) a);
+        count-is = g .0 ∙ sym (ap (λ (w : Answer). w .count) a);
+        store-is =
+            h
+            ∙ ap (λ (l : List ℕ). replace s (layout (added (stepsOf p) c (ownSet s (openModel l)))) l) (g .1)
+            ∙ ap (λ (es : List Element). replace s (layout (added (stepsOf p) c es)) (replace s (layout left) b)) left-set
+            ∙ replace-twice s (layout (added (stepsOf p) c left)) (layout left) b own-partition (length-layout left)
+            ∙ sym (store-done (by s (update p c)) b update-none);
+        output-is = sym (ap (λ (w : Answer). w .written ++ drop (length (w .written)) []) a);
       }

@@ -2,7 +2,7 @@
 use mathlib.Core.Path.{_≡_}
 use mathlib.Core.List.{List}
 use Prim.Native.Nat.{ℕ}
-use Rattle.model.specs.Call.{Call, Answer}
+use Rattle.model.specs.Call.{Call}
 use Rattle.model.specs.Run.{answerOf, storeAfter, outputAfter}
 
 -- the number and the count answered, the store and the output afterwards; a call without an output has an empty one

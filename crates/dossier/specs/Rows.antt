@@ -3,11 +3,15 @@ use mathlib.Core.Bool.{not}
 use mathlib.Core.Option.{Option, none, some}
 use mathlib.Core.List.{List, [], _∷_}
 use Prim.Native.Nat.{ℕ}
-use lib.Dec.{eqb}
+use lib.ListN.{length}
+use lib.Dec.{eqb, leb}
 use Rattle.model.specs.Label.{isLabel}
+use Rattle.model.specs.Path.{Step, parent, endsIn}
+use Rattle.model.specs.Value.{Content, bringable}
 use Rattle.model.specs.Store.{storeSize}
-use Rattle.model.specs.Model.{Model}
-use Rattle.model.specs.Call.{Row, row, someRaw, refusal, Call, subject, Op}
+use Rattle.model.specs.Model.{Model, ownSet, live}
+use Rattle.model.specs.View.{inView}
+use Rattle.model.specs.Call.{Row, row, goodPath, someRaw, refusal, Call, subject, Op}
 
 -- a refusal's number, 0 for none
 abbrev pub codeOf : Option ℕ → ℕ
@@ -21,6 +25,15 @@ rowCode rs = codeOf (refusal rs)
 -- a bare subject's call
 abbrev pub by : ℕ → Op → Call
 by s o = record { who = subject s; op = o }
+
+-- rows 4 and 5 of an insert or an update: the path, then the kind and the value
+abbrev pub bringRows : List ℕ → Content → List Row
+bringRows p c = row 4 (not (goodPath p)) ∷ row 5 (not (bringable c)) ∷ []
+
+-- rows 6 to 9 of an insert: the last label, the parent, the element, the free slot
+abbrev pub placeRows : ℕ → Model → List Step → List Row
+placeRows s m p =
+    row 6 (not (endsIn s p)) ∷ row 7 (not (inView s m (parent p))) ∷ row 8 (live m p) ∷ row 9 (leb 32 (length (ownSet s m))) ∷ []
 
 -- rows 1, 2 and 3, which every call has first
 abbrev pub openingRows : ℕ → Model → List Row

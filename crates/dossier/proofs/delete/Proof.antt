@@ -3,7 +3,8 @@ use borrow.Author.Needs.{needs}
 use mathlib.Core.Path.{sym, _∙_}
 use native.Mathlib.Omega.{arith}
 use Rattle.model.proofs.Dominance.{label-lt}
-use Rattle.dossier.proofs.Doing.{did-refused, opened-own, delete-opened, delete-did}
+use Rattle.dossier.proofs.Walking.{opened-own}
+use Rattle.dossier.proofs.Doing.{did-refused, delete-opened, delete-did}
 use Rattle.dossier.proofs.delete.Statement.{statement}
 use Rattle.dossier.proofs.delete.Tie as tie
 

@@ -1,8 +1,8 @@
--- `dossier::opening_row`: the length, the subject, the partitions.
+-- `rows::opening_row`: the length, the subject, the partitions.
 use borrow.Author.Needs.{needs}
 use Rattle.dossier.proofs.Walking.{row-one, row-two, row-three, no-row}
-use Rattle.dossier.proofs.opening_row.Statement.{statement}
-use Rattle.dossier.proofs.opening_row.Tie as tie
+use Rattle.dossier.proofs.rows.opening_row.Statement.{statement}
+use Rattle.dossier.proofs.rows.opening_row.Tie as tie
 
 pub opening-row-spec : {M : Type 1} → statement M
 opening-row-spec =

@@ -1,12 +1,11 @@
--- `dossier::own_live_row`: the last label, then the subject's own partition.
+-- `rows::own_live_row`: the last label, then the subject's own partition.
 use borrow.Author.Needs.{needs}
 use Rattle.model.specs.Path.{stepsOf}
 use Rattle.model.proofs.Dominance.{dominates-refl}
 use Rattle.store.proofs.Lending.{own-part}
-use Rattle.dossier.proofs.Doing.{opened-own}
-use Rattle.dossier.proofs.Walking.{row-six, row-seven, own-live}
-use Rattle.dossier.proofs.own_live_row.Statement.{statement}
-use Rattle.dossier.proofs.own_live_row.Tie as tie
+use Rattle.dossier.proofs.Walking.{opened-own, row-six, row-seven, own-live}
+use Rattle.dossier.proofs.rows.own_live_row.Statement.{statement}
+use Rattle.dossier.proofs.rows.own_live_row.Tie as tie
 
 pub own-live-row-spec : {M : Type 1} → statement M
 own-live-row-spec =
