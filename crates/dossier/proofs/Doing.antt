@@ -1,5 +1,5 @@
 -- What a call has done, refused or not.
-use mathlib.Core.Path.{_≡_, sym, ap, ap₂, _∙_}
+use mathlib.Core.Path.{_≡_, refl, sym, ap, ap₂, _∙_}
 use mathlib.Core.Option.{none, some}
 use mathlib.Core.List.{List, [], _++_}
 use Prim.Native.Nat.{ℕ, zero, suc, _+_, _≤_, _<_}
@@ -13,9 +13,9 @@ use Rattle.model.specs.Value.{Content, allowed, bringable}
 use Rattle.model.specs.Element.{Element, contains, remove}
 use Rattle.model.specs.Partition.{partitionSize, layout}
 use Rattle.model.specs.Store.{partitionStart, hasPartition, replace}
-use Rattle.model.specs.Model.{held, isHeld, elements, openCell, openModel, ownSet, live}
-use Rattle.model.specs.Call.{Answer, Call, insert, update, delete, goodPath, table, added, callerRows, opRows, subjectOf, refusal, refused, done, extending, effect}
-use Rattle.model.specs.Run.{answerOf, outputAfter}
+use Rattle.model.specs.Model.{Model, held, isHeld, elements, openCell, openModel, ownSet, live}
+use Rattle.model.specs.Call.{Answer, Call, Op, view, insert, update, delete, goodPath, table, added, callerRows, opRows, subjectOf, refusal, refused, done, extending, effect}
+use Rattle.model.specs.Run.{answerOf, writeSet, outputAfter}
 use Rattle.model.proofs.Bools.{not-not}
 use Rattle.model.proofs.Slots.{allowed-length}
 use Rattle.model.proofs.Partitions.{ValidSet, length-layout}
@@ -24,7 +24,7 @@ use Rattle.model.proofs.Stores.{Has, has, yes-has, replace-placed, length-repla
 use Rattle.model.proofs.Restriction.{live-own, Admitted, admitted}
 use Rattle.model.proofs.Keeps.{open-valid}
 use Rattle.model.proofs.Noninterference.{open-layout}
-use Rattle.model.proofs.Refusals.{answer-refused, store-refused, answer-done, store-done}
+use Rattle.model.proofs.Refusals.{effect-number, answer-refused, store-refused, answer-done, store-done}
 use Rattle.path.proofs.Steps.{good-path}
 use Rattle.store.specs.Opened.{Opened, Vacant}
 use Rattle.dossier.specs.Did.{Did}
@@ -44,32 +44,48 @@ did-refused c b o {k} e h =
       output-is = sym (ap (λ (x : Answer). x .written ++ drop (length (x .written)) o) a);
     }
 
--- ---- a delete that is not refused
+-- ---- a call that is not refused
 
-module _ (s : ℕ) (b p : List ℕ) (z : 0 ≡ rowCode (table (by s (delete p)) (openModel b))) where
-  delete-numbered : T (numbered (table (by s (delete p)) (openModel b)))
-  unfolding table callerRows opRows subjectOf
-  delete-numbered = tt
+op-numbered : (o : Op) (s : ℕ) (m : Model) → T (numbered (opRows o s m))
+unfolding opRows
+op-numbered (view p room) s m = tt
+op-numbered (insert p c) s m = tt
+op-numbered (update p c) s m = tt
+op-numbered (delete p) s m = tt
 
-  delete-none : refusal (table (by s (delete p)) (openModel b)) ≡ none
-  delete-none = code-none (table (by s (delete p)) (openModel b)) delete-numbered (sym z)
+module _ (s : ℕ) (b : List ℕ) (o : Op) (z : 0 ≡ rowCode (table (by s o) (openModel b))) where
+  all-numbered : T (numbered (table (by s o) (openModel b)))
+  unfolding table callerRows subjectOf
+  all-numbered = op-numbered o s (openModel b)
 
-  pub delete-opened : Opened b s
+  no-refusal : refusal (table (by s o) (openModel b)) ≡ none
+  no-refusal = code-none (table (by s o) (openModel b)) all-numbered (sym z)
+
+  pub done-admitted : Admitted (by s o) (openModel b)
+  done-admitted = admitted (by s o) (openModel b) no-refusal
+
+  pub done-opened : Opened b s
   unfolding openModel subjectOf
-  delete-opened = let a = admitted (by s (delete p)) (openModel b) delete-none in record { size = a .size; label = a .label; formed = a .sound }
+  done-opened = record { size = done-admitted .size; label = done-admitted .label; formed = done-admitted .sound }
 
-  pub delete-did : {r : ℕ} {x : List ℕ}
-      → (r ≡ extending (stepsOf p) (ownSet s (openModel b))) × (x ≡ replace s (layout (remove (stepsOf p) (ownSet s (openModel b)))) b)
-      → Did (by s (delete p)) b [] 0 r x []
-  unfolding outputAfter effect done subjectOf
-  delete-did {r} {x} g =
-      let a = answer-done (by s (delete p)) b delete-none in
+  -- one that writes no output
+  pub did-done : effect o s (openModel b) .answer .written ≡ [] → {r : ℕ} {x : List ℕ} → r ≡ effect o s (openModel b) .answer .count
+      → x ≡ writeSet s (effect o s (openModel b) .change) b → Did (by s o) b [] 0 r x []
+  unfolding outputAfter subjectOf
+  did-done w f g =
+      let a : answerOf (by s o) b ≡ effect o s (openModel b) .answer = answer-done (by s o) b no-refusal in
       record {
-        number-is = sym (ap (λ (y : Answer). y .number) a);
-        count-is = g .0 ∙ sym (ap (λ (y : Answer). y .count) a);
-        store-is = g .1 ∙ sym (store-done (by s (delete p)) b delete-none);
-        output-is = sym (ap (λ (y : Answer). y .written ++ drop (length (y .written)) []) a);
+        number-is = sym (ap (λ (y : Answer). y .number) a ∙ effect-number o s (openModel b));
+        count-is = f ∙ sym (ap (λ (y : Answer). y .count) a);
+        store-is = g ∙ sym (store-done (by s o) b no-refusal);
+        output-is = sym (ap (λ (y : Answer). y .written ++ drop (length (y .written)) []) a ∙ ap (λ (l : List ℕ). l ++ drop (length l) []) w);
       }
+
+pub delete-did : (s : ℕ) (b p : List ℕ) → 0 ≡ rowCode (table (by s (delete p)) (openModel b)) → {r : ℕ} {x : List ℕ}
+    → (r ≡ extending (stepsOf p) (ownSet s (openModel b))) × (x ≡ replace s (layout (remove (stepsOf p) (ownSet s (openModel b)))) b)
+    → Did (by s (delete p)) b [] 0 r x []
+unfolding effect done
+delete-did s b p z g = did-done s b (delete p) z refl (g .0) (g .1)
 
 -- ---- an insert that is not refused
 
@@ -86,19 +102,8 @@ unfolding bringable
 brought-kind p c h = allowed-kind (c .kind) (c .value) (h .content)
 
 module _ (s : ℕ) (b p : List ℕ) (c : Content) (z : 0 ≡ rowCode (table (by s (insert p c)) (openModel b))) where
-  insert-numbered : T (numbered (table (by s (insert p c)) (openModel b)))
-  unfolding table callerRows opRows subjectOf
-  insert-numbered = tt
-
-  insert-none : refusal (table (by s (insert p c)) (openModel b)) ≡ none
-  insert-none = code-none (table (by s (insert p c)) (openModel b)) insert-numbered (sym z)
-
   insert-admitted : Admitted (by s (insert p c)) (openModel b)
-  insert-admitted = admitted (by s (insert p c)) (openModel b) insert-none
-
-  pub insert-opened : Opened b s
-  unfolding openModel subjectOf
-  insert-opened = record { size = insert-admitted .size; label = insert-admitted .label; formed = insert-admitted .sound }
+  insert-admitted = done-admitted s b (insert p c) z
 
   pub insert-brought : Brought p c
   unfolding opRows
@@ -110,21 +115,14 @@ module _ (s : ℕ) (b p : List ℕ) (c : Content) (z : 0 ≡ rowCode (table (by 
   insert-vacant =
       let own : T (endsIn s (stepsOf p)) = not-not (endsIn s (stepsOf p)) (insert-admitted .rows .1 .1 .0) in
       record {
-        own = opened-own insert-opened;
+        own = opened-own (done-opened s b (insert p c) z);
         free = leb-no (insert-admitted .rows .1 .1 .1 .1 .1 .0);
         lacks = rw (live-own s (openModel b) (stepsOf p) own) at (insert-admitted .rows .1 .1 .1 .1 .0);
       }
 
   pub insert-did : {x : List ℕ} → x ≡ replace s (layout (added (stepsOf p) c (ownSet s (openModel b)))) b → Did (by s (insert p c)) b [] 0 0 x []
-  unfolding outputAfter effect done subjectOf
-  insert-did {x} g =
-      let a = answer-done (by s (insert p c)) b insert-none in
-      record {
-        number-is = sym (ap (λ (y : Answer). y .number) a);
-        count-is = sym (ap (λ (y : Answer). y .count) a);
-        store-is = g ∙ sym (store-done (by s (insert p c)) b insert-none);
-        output-is = sym (ap (λ (y : Answer). y .written ++ drop (length (y .written)) []) a);
-      }
+  unfolding effect done
+  insert-did g = did-done s b (insert p c) z refl refl g
 
 -- what was brought is short enough to be written
 pub brought-short : (p : List ℕ) (c : Content) → Brought p c → (length p ≤ 20) × (length (c .value) ≤ 16)
@@ -149,19 +147,11 @@ replace-twice n x y b t fit =
     ∙ sym (replace-placed n x b t)
 
 module _ (s : ℕ) (b p : List ℕ) (c : Content) (z : 0 ≡ rowCode (table (by s (update p c)) (openModel b))) where
-  update-numbered : T (numbered (table (by s (update p c)) (openModel b)))
-  unfolding table callerRows opRows subjectOf
-  update-numbered = tt
-
-  update-none : refusal (table (by s (update p c)) (openModel b)) ≡ none
-  update-none = code-none (table (by s (update p c)) (openModel b)) update-numbered (sym z)
-
   update-admitted : Admitted (by s (update p c)) (openModel b)
-  update-admitted = admitted (by s (update p c)) (openModel b) update-none
+  update-admitted = done-admitted s b (update p c) z
 
-  pub update-opened : Opened b s
-  unfolding openModel subjectOf
-  update-opened = record { size = update-admitted .size; label = update-admitted .label; formed = update-admitted .sound }
+  update-opened : Opened b s
+  update-opened = done-opened s b (update p c) z
 
   pub update-brought : Brought p c
   unfolding opRows
@@ -214,17 +204,10 @@ module _ (s : ℕ) (b p : List ℕ) (c : Content) (z : 0 ≡ rowCode (table (by 
       → (r ≡ extending (stepsOf p) (ownSet s (openModel b))) × (x ≡ replace s (layout (remove (stepsOf p) (ownSet s (openModel b)))) b)
       → y ≡ replace s (layout (added (stepsOf p) c (ownSet s (openModel x)))) x
       → Did (by s (update p c)) b [] 0 r y []
-  unfolding outputAfter effect done subjectOf left
-  update-did {r} {x} {y} g h =
-      let a = answer-done (by s (update p c)) b update-none in
-      record {
-        number-is = sym (ap (λ (w : Answer). w .number) a);
-        count-is = g .0 ∙ sym (ap (λ (w : Answer). w .count) a);
-        store-is =
-            h
-            ∙ ap (λ (l : List ℕ). replace s (layout (added (stepsOf p) c (ownSet s (openModel l)))) l) (g .1)
-            ∙ ap (λ (es : List Element). replace s (layout (added (stepsOf p) c es)) (replace s (layout left) b)) left-set
-            ∙ replace-twice s (layout (added (stepsOf p) c left)) (layout left) b own-partition (length-layout left)
-            ∙ sym (store-done (by s (update p c)) b update-none);
-        output-is = sym (ap (λ (w : Answer). w .written ++ drop (length (w .written)) []) a);
-      }
+  unfolding effect done left
+  update-did g h =
+      did-done s b (update p c) z refl (g .0)
+      (h
+      ∙ ap (λ (l : List ℕ). replace s (layout (added (stepsOf p) c (ownSet s (openModel l)))) l) (g .1)
+      ∙ ap (λ (es : List Element). replace s (layout (added (stepsOf p) c es)) (replace s (layout left) b)) left-set
+      ∙ replace-twice s (layout (added (stepsOf p) c left)) (layout left) b own-partition (length-layout left))

@@ -18,7 +18,7 @@ use Rattle.model.specs.Store.{storeSize, partition}
 use Rattle.model.specs.Model.{ownSet, live, openModel}
 use Rattle.model.specs.View.{inView}
 use Rattle.model.specs.Call.{Row, row, goodPath, someRaw, refusal, callerRows, ownLiveRows, opRows, table, subjectOf, Op, insert, update, delete}
-use Rattle.model.proofs.Bools.{not-not}
+use Rattle.model.proofs.Bools.{and-l, and-r, not-not}
 use Rattle.model.proofs.Rows.{Passes, passes}
 use Rattle.model.proofs.Dominance.{dominates-refl}
 use Rattle.model.proofs.Restriction.{live-own}
@@ -45,21 +45,13 @@ numbered [] = true
 numbered (row k t ∷ rs) = ltb 0 k && numbered rs
 
 numbered-first : (k : ℕ) (b : Bool) → T (ltb 0 k && b) → 0 < k
-numbered-first k b t = go (ltb 0 k) refl t
-  where
-    go : (a : Bool) → a ≡ ltb 0 k → T (a && b) → 0 < k
-    go true e u = ltb-yes (rw (← e) tt)
-    go false e u = absurd u
-
-numbered-rest : (a b : Bool) → T (a && b) → T b
-numbered-rest true b u = u
-numbered-rest false b u = absurd u
+numbered-first k b t = ltb-yes (and-l (ltb 0 k) b t)
 
 pub code-none : (rs : List Row) → T (numbered rs) → rowCode rs ≡ 0 → refusal rs ≡ none
 unfolding refusal
 code-none [] t e = refl
 code-none (row k true ∷ rs) t e = absurd (omega (arith, numbered-first k (numbered rs) t))
-code-none (row k false ∷ rs) t e = code-none rs (numbered-rest (ltb 0 k) (numbered rs) t) e
+code-none (row k false ∷ rs) t e = code-none rs (and-r (ltb 0 k) (numbered rs) t) e
 
 pub code-some : (rs : List Row) → (rowCode rs ≡ 0 → ⊥) → refusal rs ≡ some (rowCode rs)
 code-some rs h = go (refusal rs) h
@@ -79,7 +71,7 @@ pub code-past : (front rest : List Row) → T (numbered front) → rowCode front
 unfolding refusal
 code-past [] rest t e = refl
 code-past (row k true ∷ front) rest t e = absurd (omega (arith, numbered-first k (numbered front) t))
-code-past (row k false ∷ front) rest t e = code-past front rest (numbered-rest (ltb 0 k) (numbered front) t) e
+code-past (row k false ∷ front) rest t e = code-past front rest (and-r (ltb 0 k) (numbered front) t) e
 
 -- ---- rows 1, 2 and 3
 
@@ -131,8 +123,8 @@ opened-own {b} {s} o =
     }
 
 -- a path that passed row 4
-pub good-path : (p : List ℕ) {r : Bool} → r ≡ goodPath p → not r ≡ false → T (goodPath p)
-good-path p {r} e t = rw (← e, not-false r t) tt
+pub passed-four : (p : List ℕ) {r : Bool} → r ≡ goodPath p → not r ≡ false → T (goodPath p)
+passed-four p {r} e t = rw (← e, not-false r t) tt
 
 -- ---- rows 6 and 7 of an update or a delete
 
