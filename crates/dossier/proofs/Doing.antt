@@ -68,18 +68,23 @@ module _ (s : ℕ) (b : List ℕ) (o : Op) (z : 0 ≡ rowCode (table (by s o) (o
   unfolding openModel subjectOf
   done-opened = record { size = done-admitted .size; label = done-admitted .label; formed = done-admitted .sound }
 
+  -- it leaves what the effect says, its bytes laid over the output
+  pub did-laid : (y : List ℕ) {r : ℕ} {x z : List ℕ} → r ≡ effect o s (openModel b) .answer .count → x ≡ writeSet s (effect o s (openModel b) .change) b
+      → z ≡ effect o s (openModel b) .answer .written ++ drop (length (effect o s (openModel b) .answer .written)) y → Did (by s o) b y 0 r x z
+  unfolding outputAfter subjectOf
+  did-laid y f g h =
+      let a : answerOf (by s o) b ≡ effect o s (openModel b) .answer = answer-done (by s o) b no-refusal in
+      record {
+        number-is = sym (ap (λ (w : Answer). w .number) a ∙ effect-number o s (openModel b));
+        count-is = f ∙ sym (ap (λ (w : Answer). w .count) a);
+        store-is = g ∙ sym (store-done (by s o) b no-refusal);
+        output-is = h ∙ sym (ap (λ (w : Answer). w .written ++ drop (length (w .written)) y) a);
+      }
+
   -- one that writes no output
   pub did-done : effect o s (openModel b) .answer .written ≡ [] → {r : ℕ} {x : List ℕ} → r ≡ effect o s (openModel b) .answer .count
       → x ≡ writeSet s (effect o s (openModel b) .change) b → Did (by s o) b [] 0 r x []
-  unfolding outputAfter subjectOf
-  did-done w f g =
-      let a : answerOf (by s o) b ≡ effect o s (openModel b) .answer = answer-done (by s o) b no-refusal in
-      record {
-        number-is = sym (ap (λ (y : Answer). y .number) a ∙ effect-number o s (openModel b));
-        count-is = f ∙ sym (ap (λ (y : Answer). y .count) a);
-        store-is = g ∙ sym (store-done (by s o) b no-refusal);
-        output-is = sym (ap (λ (y : Answer). y .written ++ drop (length (y .written)) []) a ∙ ap (λ (l : List ℕ). l ++ drop (length l) []) w);
-      }
+  did-done w f g = did-laid [] f g (sym (ap (λ (l : List ℕ). l ++ drop (length l) []) w))
 
 pub delete-did : (s : ℕ) (b p : List ℕ) → 0 ≡ rowCode (table (by s (delete p)) (openModel b)) → {r : ℕ} {x : List ℕ}
     → (r ≡ extending (stepsOf p) (ownSet s (openModel b))) × (x ≡ replace s (layout (remove (stepsOf p) (ownSet s (openModel b)))) b)

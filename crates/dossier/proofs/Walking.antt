@@ -73,6 +73,13 @@ code-past [] rest t e = refl
 code-past (row k true ∷ front) rest t e = absurd (omega (arith, numbered-first k (numbered front) t))
 code-past (row k false ∷ front) rest t e = code-past front rest (and-r (ltb 0 k) (numbered front) t) e
 
+pub code-front : (front rest : List Row) → rowCode (front ++ rest) ≡ 0 → rowCode front ≡ 0
+code-front front rest e = go (rowCode front) refl
+  where
+    go : (k : ℕ) → rowCode front ≡ k → rowCode front ≡ 0
+    go zero q = q
+    go (suc k) q = code-stop front rest (λ z. let y : suc k ≡ 0 = sym q ∙ z in omega arith) ∙ e
+
 -- ---- rows 1, 2 and 3
 
 module _ (s : ℕ) (b : List ℕ) where

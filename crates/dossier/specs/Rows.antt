@@ -1,12 +1,12 @@
 -- The table's rows as the code walks them.
-use mathlib.Core.Bool.{not}
+use mathlib.Core.Bool.{not, _||_}
 use mathlib.Core.Option.{Option, none, some}
-use mathlib.Core.List.{List, [], _∷_}
+use mathlib.Core.List.{List, [], _∷_, _++_}
 use Prim.Native.Nat.{ℕ}
 use lib.ListN.{length}
 use lib.Dec.{eqb, leb}
 use Rattle.model.specs.Label.{isLabel}
-use Rattle.model.specs.Path.{Step, parent, endsIn}
+use Rattle.model.specs.Path.{Step, parent, endsIn, stepsOf}
 use Rattle.model.specs.Value.{Content, bringable}
 use Rattle.model.specs.Store.{storeSize}
 use Rattle.model.specs.Model.{Model, ownSet, live}
@@ -38,3 +38,11 @@ placeRows s m p =
 -- rows 1, 2 and 3, which every call has first
 abbrev pub openingRows : ℕ → Model → List Row
 openingRows s m = row 1 (not (eqb (m .size) storeSize)) ∷ row 2 (not (isLabel s)) ∷ row 3 (someRaw s m) ∷ []
+
+-- rows 4 and 7 of a view: the path, which may be the root, and whether it is in view
+abbrev pub seenRows : ℕ → Model → List ℕ → List Row
+seenRows s m p = row 4 (not (eqb (length p) 0 || goodPath p)) ∷ row 7 (not (inView s m (stepsOf p))) ∷ []
+
+-- a view's rows but the last, which needs the listing
+abbrev pub viewRows : ℕ → Model → List ℕ → List Row
+viewRows s m p = openingRows s m ++ seenRows s m p

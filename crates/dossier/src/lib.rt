@@ -2,6 +2,7 @@
 mod rows;
 
 ghost use mathlib.Core.List.{[]};
+ghost use lib.ListN.{length};
 ghost use Rattle.model.specs.Call as calls;
 ghost use Rattle.dossier.specs.Did.{Did};
 ghost use Rattle.dossier.specs.Rows.{by};
@@ -10,6 +11,27 @@ ghost use Rattle.dossier.specs.Rows.{by};
 pub struct Answer {
     pub number: u32,
     pub count: usize,
+}
+
+// Lists the path and all that is in view below it into the output: how many bytes were written.
+pub fn view(store: &[u8], subject: u32, path: &[u8], output: &mut [u8]) -> Answer
+    ensures { λ r. ⌜ Did (by subject (calls.view (now (path .entry)) (length (now (output .entry))))) (now (store .entry)) (now (output .entry)) (r .number) (r .count) (now (store .entry)) (now (output .exit)) ⌝ }
+{
+    let number = rows::view_row(store, subject, path);
+    if number != 0 {
+        return Answer { number, count: 0 };
+    }
+    let total = listing::list(store, subject as u8, path, output);
+    if output.len() < total {
+        return Answer {
+            number: 10,
+            count: 0,
+        };
+    }
+    Answer {
+        number: 0,
+        count: total,
+    }
 }
 
 // Inserts an element into the subject's partition.

@@ -1,12 +1,14 @@
 // The table of refusals walked row by row: the number of the first row that applies, or 0. Nothing is written here.
 ghost use mathlib.Core.Path.{_≡_};
-ghost use lib.Dec.{T};
+ghost use mathlib.Core.Bool.{_||_};
+ghost use lib.ListN.{length};
+ghost use lib.Dec.{T, eqb};
 ghost use Rattle.model.specs.Path.{stepsOf};
 ghost use Rattle.model.specs.Model.{openModel};
 ghost use Rattle.model.specs.Call.{goodPath, ownLiveRows, table};
 ghost use Rattle.model.specs.Call as calls;
 ghost use Rattle.store.specs.Opened.{Opened};
-ghost use Rattle.dossier.specs.Rows.{rowCode, by, bringRows, placeRows, openingRows};
+ghost use Rattle.dossier.specs.Rows.{rowCode, by, bringRows, placeRows, openingRows, seenRows, viewRows};
 
 // Rows 1, 2 and 3: the number of the first that applies, or 0.
 fn opening_row(store: &[u8], subject: u32) -> u32
@@ -117,4 +119,39 @@ pub fn delete_row(store: &[u8], subject: u32, path: &[u8]) -> u32
         return 4;
     }
     own_live_row(store, subject as u8, path)
+}
+
+// Whether a view may be asked for the path: the root, or a path.
+fn is_view_path(path: &[u8]) -> bool
+    ensures { λ r. ⌜ r ≡ (eqb (length (now (path .entry))) 0 || goodPath (now (path .entry))) ⌝ }
+{
+    if path.len() == 0 {
+        return true;
+    }
+    path::is_path(path)
+}
+
+// Rows 4 and 7 of a view: the path, then whether it is in view.
+fn seen_row(store: &[u8], subject: u8, path: &[u8]) -> u32
+    requires { ⌜ Opened (now store) subject ⌝ }
+    ensures { λ r. ⌜ r ≡ rowCode (seenRows subject (openModel (now (store .entry))) (now (path .entry))) ⌝ }
+{
+    if !is_view_path(path) {
+        return 4;
+    }
+    if !store::in_view(store, subject, path) {
+        return 7;
+    }
+    0
+}
+
+// A view's rows but the last, which needs the listing.
+pub fn view_row(store: &[u8], subject: u32, path: &[u8]) -> u32
+    ensures { λ r. ⌜ r ≡ rowCode (viewRows subject (openModel (now (store .entry))) (now (path .entry))) ⌝ }
+{
+    let r = opening_row(store, subject);
+    if r != 0 {
+        return r;
+    }
+    seen_row(store, subject as u8, path)
 }

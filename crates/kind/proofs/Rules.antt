@@ -1,6 +1,6 @@
--- A value is allowed where it passes the rule of its kind; the letter of a kind is its rule's.
-use mathlib.Core.Path.{_≡_, refl}
-use mathlib.Core.Bool.{Bool, false, _&&_, and-true}
+-- A value is allowed where it passes the rule of its kind; the letter of a kind is its rule's, and the rule says how a value is printed.
+use mathlib.Core.Path.{_≡_, refl, sym, subst}
+use mathlib.Core.Bool.{Bool, true, false, _&&_, and-true}
 use mathlib.Core.List.{List, [], _∷_}
 use Prim.Native.Nat.{ℕ, zero, suc, _≤_, _<_}
 use native.Mathlib.Omega.{arith}
@@ -10,7 +10,8 @@ use mir.Facts.{leb-yes, yes-leb, eqb-yes, yes-eqb, ltb-yes}
 use borrow.Author.Tests.{le-leb, lt-leb}
 use Rattle.model.specs.Lists.{all, isByte}
 use Rattle.model.specs.Value.{isPrintable, allowed}
-use Rattle.model.specs.View.{letter}
+use Rattle.model.specs.Text.{ascii, measureOf, signed}
+use Rattle.model.specs.View.{letter, shown}
 use Rattle.model.proofs.Bools.{and-l, and-r, both, is-true, same-test}
 use Rattle.model.proofs.Lists.{Bytes, all-implies}
 use Rattle.kind.specs.declared.Rule.{Rule}
@@ -86,3 +87,38 @@ letter-rule zero = refl
 letter-rule (suc zero) = refl
 letter-rule (suc (suc zero)) = refl
 letter-rule (suc (suc (suc k))) = refl
+
+-- ---- how a value is printed
+
+never : {X : Type 0} → false ≡ true → X
+never e = absurd (subst T (sym e) tt)
+
+-- the rule of a number is that of a measure
+pub number-length : (k : ℕ) (v : List ℕ) → T (allowed k v) → ruleOf k .number ≡ true → length v ≡ 4
+unfolding allowed ruleOf
+number-length zero v t e = never e
+number-length (suc zero) v t e = eqb-yes (and-l (eqb (length v) 4) (all isByte v) t)
+number-length (suc (suc zero)) v t e = never e
+number-length (suc (suc (suc k))) v t e = absurd t
+
+pub shown-number : (k : ℕ) (v : List ℕ) → ruleOf k .number ≡ true → signed (measureOf v) ≡ shown k v
+unfolding shown ruleOf
+shown-number zero v e = never e
+shown-number (suc zero) v e = refl
+shown-number (suc (suc zero)) v e = never e
+shown-number (suc (suc (suc k))) v e = never e
+
+-- only a group has a value of no bytes
+pub shown-none : (k : ℕ) (v : List ℕ) → T (allowed k v) → length v ≡ 0 → ascii "-" ≡ shown k v
+unfolding shown allowed
+shown-none zero v t h = refl
+shown-none (suc zero) v t h = let l : length v ≡ 4 = eqb-yes (and-l (eqb (length v) 4) (all isByte v) t) in absurd (omega arith)
+shown-none (suc (suc zero)) v t h = let l : 1 ≤ length v = leb-yes (search (and-l, and-r)) in absurd (omega arith)
+shown-none (suc (suc (suc k))) v t h = absurd t
+
+-- and only a text is printed as it is
+pub shown-text : (k : ℕ) (v : List ℕ) → T (allowed k v) → ruleOf k .number ≡ false → 0 < length v → v ≡ shown k v
+unfolding shown allowed ruleOf
+shown-text zero v t e h = let l : length v ≡ 0 = eqb-yes t in absurd (omega arith)
+shown-text (suc zero) v t e h = never (sym e)
+shown-text (suc (suc k)) v t e h = refl

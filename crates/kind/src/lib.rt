@@ -6,13 +6,14 @@ ghost use Rattle.model.specs.Value.{allowed};
 ghost use Rattle.model.specs.View.{letter};
 ghost use Rattle.kind.specs.Rule.{within, ruleOf};
 
-// A value has least to most bytes, each low to high, and is printed with the letter.
+// A value has least to most bytes, each low to high. It is printed with the letter, and as a number or as it is.
 pub struct Rule {
     pub least: usize,
     pub most: usize,
     pub low: u8,
     pub high: u8,
     pub letter: u8,
+    pub number: bool,
 }
 
 // The rule of a kind: 0 group, 1 measure, 2 text; no length is right for any other.
@@ -26,6 +27,7 @@ pub fn rule_of(kind: u32) -> Rule
             low: 0,
             high: 255,
             letter: b'G',
+            number: false,
         },
         1 => Rule {
             least: 4,
@@ -33,6 +35,7 @@ pub fn rule_of(kind: u32) -> Rule
             low: 0,
             high: 255,
             letter: b'M',
+            number: true,
         },
         2 => Rule {
             least: 1,
@@ -40,6 +43,7 @@ pub fn rule_of(kind: u32) -> Rule
             low: 32,
             high: 126,
             letter: b'T',
+            number: false,
         },
         3..=u32::MAX => Rule {
             least: 1,
@@ -47,6 +51,7 @@ pub fn rule_of(kind: u32) -> Rule
             low: 0,
             high: 255,
             letter: b'T',
+            number: false,
         },
     }
 }

@@ -188,3 +188,8 @@ module _ {A : Type 0} where
   pub length-range : (g : ℕ → A) (i n : ℕ) → length (range g i n) ≡ n
   length-range g i zero = refl
   length-range g i (suc n) = ap suc (length-range g (suc i) n)
+
+  pub take-range : (g : ℕ → A) (k i n : ℕ) → k ≤ n → take k (range g i n) ≡ range g i k
+  take-range g zero i n h = refl
+  take-range g (suc k) i zero h = absurd (omega arith)
+  take-range g (suc k) i (suc n) h = ap (λ (l : List A). g i ∷ l) (take-range g k (suc i) n (omega arith))

@@ -1,6 +1,6 @@
 -- What a view shows at a path in view is what stands in the set of the path's label: its content where it is live, and the mark
 -- of a removed element where it is not.
-use mathlib.Core.Path.{_≡_, refl, sym, ap, _∙_}
+use mathlib.Core.Path.{_≡_, refl, sym, ap, subst, _∙_}
 use mathlib.Core.Logic.{_≢_}
 use mathlib.Core.Bool.{Bool, true, false, not, cond, _&&_, _||_}
 use mathlib.Core.Option.{Option, none, some}
@@ -11,15 +11,16 @@ use lib.Dec.{T, eqb, eqb-refl}
 use mir.Facts.{eqb-yes, eqb-no}
 use Rattle.model.specs.Lists.{any, gather, range}
 use Rattle.model.specs.Label.{labels, dominates}
-use Rattle.model.specs.Path.{Step, samePath, isPrefix, lastStep, bears, endsIn, validPath}
+use Rattle.model.specs.Path.{Step, samePath, isPrefix, lastStep, bears, endsIn, validPath, key}
 use Rattle.model.specs.Value.{Content}
-use Rattle.model.specs.Element.{Element, validElement, contains}
+use Rattle.model.specs.Element.{Element, rank, validElement, contains}
 use Rattle.model.specs.Model.{Model, ownSet, live}
 use Rattle.model.specs.View.{visible, inView, removed, contentAt}
 use Rattle.model.proofs.Bools.{and-l, and-r, or-l, or-r, decide, cond-yes, cond-no, is-true, is-false}
 use Rattle.model.proofs.Members.{_∈_, all-in, any-in}
 use Rattle.model.proofs.Dominance.{label-lt, dominates-lower, dominates-trans}
-use Rattle.model.proofs.Paths.{prefix-below}
+use Rattle.model.proofs.Order.{ascending-sorted, sorted-one}
+use Rattle.model.proofs.Paths.{prefix-below, key-keyed, keys-injective}
 use Rattle.model.proofs.Sets.{contains-in}
 use Rattle.model.proofs.Restriction.{live-own}
 use Rattle.model.proofs.Keeps.{ValidSets, visible-in}
@@ -103,6 +104,26 @@ ends-once p m n = go (lastStep p)
     go : (a : Option Step) → T (bears m a) → T (bears n a) → m ≡ n
     go none s t = absurd s
     go (some a) s t = let x : a .label ≡ m = eqb-yes s in let y : a .label ≡ n = eqb-yes t in cc
+
+-- ---- elements of one path are one
+
+module _ (m : Model) (sets : ValidSets m) where
+  pub own-label : (n : ℕ) (e : Element) → e ∈ ownSet n m → T (endsIn n (e .path))
+  unfolding validElement
+  own-label n e k =
+      let v : T (validElement n e) = all-in (validElement n) (ownSet n m) (sets n .valid) k in
+      search (and-l, and-r)
+
+  module _ (j k : ℕ) {d e : Element} (g : d ∈ ownSet j m) (h : e ∈ ownSet k m) (q : rank d ≡ rank e) where
+    pub own-same : j ≡ k
+    own-same =
+        ends-once (e .path) j k
+        (subst (λ (p : List Step). T (endsIn j p)) (keys-injective key key-keyed (d .path) (e .path) q) (own-label j d g)) (own-label k e h)
+
+    pub own-one : d ≡ e
+    own-one =
+        sorted-one rank (ownSet k m) (ascending-sorted rank (ownSet k m) (sets k .ascends)) d e
+        (subst (λ (n : ℕ). d ∈ ownSet n m) own-same g) h q
 
 -- ---- what is visible at a path
 

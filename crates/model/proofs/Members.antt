@@ -1,8 +1,8 @@
 -- What tests on lists say of the members.
-use mathlib.Core.Path.{_≡_, refl, ap}
+use mathlib.Core.Path.{_≡_, refl, sym, ap, ap₂, _∙_}
 use mathlib.Core.Logic.{_⊎_, inl, inr}
 use mathlib.Core.Bool.{Bool, not}
-use mathlib.Core.List.{List, [], _∷_, _++_, map, List·Memᴰ, List·Memᴰ·head, List·Memᴰ·tail, List·Memᴰ·cases-cons, List·Memᴰ·not-nil, List·Memᴰ·append-cases}
+use mathlib.Core.List.{List, [], _∷_, _++_, map, append-assoc, List·Memᴰ, List·Memᴰ·head, List·Memᴰ·tail, List·Memᴰ·cases-cons, List·Memᴰ·not-nil, List·Memᴰ·append-cases}
 use lib.Dec.{T}
 use mir.Facts.{or-yes, T-not}
 use Rattle.model.specs.Lists.{all, any, keep, gather}
@@ -110,3 +110,13 @@ module _ {A : Type 0} where
       go : (x ≡ y) ⊎ (x ∈ l) → (x ∈ l → f x ∈ map f l) → f x ∈ map f (y ∷ l)
       go (inl e) g = List·Memᴰ·head (ap f e)
       go (inr k) g = List·Memᴰ·tail (g k)
+
+-- ---- lists gathered
+
+pub gather-append : {A B : Type 0} (f : A → List B) (l m : List A) → gather f (l ++ m) ≡ gather f l ++ gather f m
+gather-append f [] m = refl
+gather-append f (x ∷ l) m = ap (λ z. f x ++ z) (gather-append f l m) ∙ sym (append-assoc (f x) (gather f l) (gather f m))
+
+pub gather-ext : {A B : Type 0} (f g : A → List B) (l : List A) → ((x : A) → x ∈ l → f x ≡ g x) → gather f l ≡ gather g l
+gather-ext f g [] h = refl
+gather-ext f g (x ∷ l) h = ap₂ (λ y z. y ++ z) (h x (List·Memᴰ·head refl)) (gather-ext f g l (λ y m. h y (List·Memᴰ·tail m)))

@@ -3,16 +3,16 @@
 use mathlib.Core.Path.{_≡_, refl, sym, ap, ap₂, _∙_, subst}
 use mathlib.Core.Logic.{_⊎_, inl, inr}
 use mathlib.Core.Bool.{Bool, true, false, not, cond, _&&_}
-use mathlib.Core.List.{List, [], _∷_, _++_, List·Memᴰ·head, List·Memᴰ·tail, List·Memᴰ·cases-cons, List·Memᴰ·not-nil}
+use mathlib.Core.List.{List, [], _∷_, _++_, List·Memᴰ·head, List·Memᴰ·tail, List·Memᴰ·cases-cons, List·Memᴰ·not-nil, List·Memᴰ·append-cases}
 use Prim.Native.Nat.{ℕ, suc, _≤_, _<_}
 use native.Mathlib.Omega.{arith}
 use lib.ListN.{length}
 use lib.Dec.{T, eqb, ltb, eqb-refl}
-use mir.Facts.{no-ltb, or-yes, or-no, eqb-yes, yes-eqb, ltb-yes, ltb-no, yes-ltb}
+use mir.Facts.{not-T, no-ltb, or-yes, or-no, eqb-yes, yes-eqb, ltb-yes, ltb-no, yes-ltb}
 use Rattle.model.specs.Lists.{all, keep}
 use Rattle.model.specs.Sets.{precedes, ascending, put, sort}
 use Rattle.model.proofs.Bools.{and-l, and-r, both, or-l, or-r, decide, cond-yes, cond-no, is-true, is-false}
-use Rattle.model.proofs.Members.{_∈_, all-in, in-all, keep-in}
+use Rattle.model.proofs.Members.{_∈_, in-front, in-back, all-in, in-all, keep-in}
 
 pub precedes-trans : (x y z : List ℕ) → T (precedes x y) → T (precedes y z) → T (precedes x z)
 precedes-trans [] [] z s t = absurd s
@@ -161,14 +161,14 @@ module _ {A : Type 0} (rank : A → List ℕ) where
       deeper (inl h) f = List·Memᴰ·head h
       deeper (inr k) f = List·Memᴰ·tail (f k)
 
-  -- what is put in is there
-  put-there-in : ((x y : A) → rank x ≡ rank y → x ≡ y) → (x : A) (l : List A) → x ∈ put rank x l
-  put-there-in inj x [] = List·Memᴰ·head refl
-  put-there-in inj x (y ∷ l) =
+  -- what is put in is there, if a member of its rank is itself
+  put-self : (x : A) (l : List A) → ((y : A) → y ∈ l → rank x ≡ rank y → x ≡ y) → x ∈ put rank x l
+  put-self x [] f = List·Memᴰ·head refl
+  put-self x (y ∷ l) f =
       three x y l
-      (λ t. rw (put-after x y l t) (List·Memᴰ·tail (put-there-in inj x l)))
+      (λ t. rw (put-after x y l t) (List·Memᴰ·tail (put-self x l (λ z m. f z (List·Memᴰ·tail m)))))
       (λ s t. rw (put-here x y l s t) (List·Memᴰ·head refl))
-      (λ s t. rw (put-there x y l s t) (List·Memᴰ·head (inj x y (precedes-total (rank x) (rank y) t s))))
+      (λ s t. rw (put-there x y l s t) (List·Memᴰ·head (f y (List·Memᴰ·head refl) (precedes-total (rank x) (rank y) t s))))
 
   -- no member has x's rank
   abbrev pub Fresh : A → List A → Type 0
@@ -259,11 +259,84 @@ module _ {A : Type 0} (rank : A → List ℕ) where
       go (inl h) f = List·Memᴰ·head h
       go (inr k) f = List·Memᴰ·tail (f k)
 
-  -- where members of one rank are equal
-  pub in-sort : ((x y : A) → rank x ≡ rank y → x ≡ y) → (l : List A) {z : A} → z ∈ l → z ∈ sort rank l
-  in-sort inj [] m = m
-  in-sort inj (x ∷ l) {z} m = go (List·Memᴰ·cases-cons m) (λ (k : z ∈ l). in-sort inj l k)
+  -- where members of one rank are one
+  pub in-sort-members : (l : List A) → ((x y : A) → x ∈ l → y ∈ l → rank x ≡ rank y → x ≡ y) → {z : A} → z ∈ l → z ∈ sort rank l
+  in-sort-members [] one m = m
+  in-sort-members (x ∷ l) one {z} m =
+      go (List·Memᴰ·cases-cons m)
+      (λ (k : z ∈ l). in-sort-members l (λ a b h i. one a b (List·Memᴰ·tail h) (List·Memᴰ·tail i)) k)
     where
       go : (z ≡ x) ⊎ (z ∈ l) → (z ∈ l → z ∈ sort rank l) → z ∈ put rank x (sort rank l)
-      go (inl h) f = rw h (put-there-in inj x (sort rank l))
+      go (inl e) f =
+          rw e (put-self x (sort rank l) (λ y k q. one x y (List·Memᴰ·head refl) (List·Memᴰ·tail (sort-in l k)) q))
       go (inr k) f = in-put x (sort rank l) (f k)
+
+  pub in-sort : ((x y : A) → rank x ≡ rank y → x ≡ y) → (l : List A) {z : A} → z ∈ l → z ∈ sort rank l
+  in-sort inj l m = in-sort-members l (λ x y h k. inj x y) m
+
+  -- a sorted list behind another, each member of which comes before each of its
+  pub sorted-append : (l m : List A) → T (sorted l) → T (sorted m) → ((x y : A) → x ∈ l → y ∈ m → T (isBefore x y)) → T (sorted (l ++ m))
+  sorted-append [] m s t f = t
+  sorted-append (x ∷ l) m s t f =
+      both (ahead x (l ++ m)) (sorted (l ++ m))
+      (in-all (isBefore x) (l ++ m) (λ z k. go z (List·Memᴰ·append-cases l k)))
+      (sorted-append l m (and-r (ahead x l) (sorted l) s) t (λ y z h k. f y z (List·Memᴰ·tail h) k))
+    where
+      go : (z : A) → (z ∈ l) ⊎ (z ∈ m) → T (isBefore x z)
+      go z (inl h) = all-in (isBefore x) l (and-l (ahead x l) (sorted l) s) h
+      go z (inr h) = f x z (List·Memᴰ·head refl) h
+
+  -- an element that comes before all others is the first
+  pub put-first : (x : A) (l : List A) → T (ahead x l) → put rank x l ≡ x ∷ l
+  put-first x [] t = refl
+  put-first x (y ∷ l) t =
+      let a : T (isBefore x y) = and-l (isBefore x y) (ahead x l) t in
+      put-here x y l (not-T (isBefore y x) (λ h. precedes-irrefl (rank x) (precedes-trans (rank x) (rank y) (rank x) a h))) a
+
+  pub sort-first : (x : A) (l : List A) → T (ahead x l) → sort rank (x ∷ l) ≡ x ∷ sort rank l
+  sort-first x l t = put-first x (sort rank l) (in-all (isBefore x) (sort rank l) (λ y m. all-in (isBefore x) l t (sort-in l m)))
+
+  pub sort-behind : (y : A) (l m : List A) → T (ahead y l) → T (ahead y m) → sort rank (l ++ (y ∷ m)) ≡ y ∷ sort rank (l ++ m)
+  sort-behind y [] m s t = sort-first y m t
+  sort-behind y (x ∷ l) m s t =
+      ap (put rank x) (sort-behind y l m (and-r (isBefore y x) (ahead y l) s) t)
+      ∙ put-after x y (sort rank (l ++ m)) (and-l (isBefore y x) (ahead y l) s)
+
+  -- a sorted list is sorted already
+  pub sort-sorted : (l : List A) → T (sorted l) → sort rank l ≡ l
+  sort-sorted [] t = refl
+  sort-sorted (x ∷ l) t = sort-first x l (and-l (ahead x l) (sorted l) t) ∙ ap (λ (m : List A). x ∷ m) (sort-sorted l (and-r (ahead x l) (sorted l) t))
+
+  -- two lists, each sorted by itself, and then together
+  pub sort-join : (l m : List A) → ((x y : A) → x ∈ l ++ m → y ∈ l ++ m → rank x ≡ rank y → x ≡ y)
+      → sort rank (sort rank l ++ sort rank m) ≡ sort rank (l ++ m)
+  sort-join l m one =
+      sorted-unique (sort rank (sort rank l ++ sort rank m)) (sort rank (l ++ m)) (sorted-sort (sort rank l ++ sort rank m)) (sorted-sort (l ++ m))
+      (λ x h. in-sort-members (l ++ m) one (down x (List·Memᴰ·append-cases (sort rank l) (sort-in (sort rank l ++ sort rank m) h))))
+      (λ x h. in-sort-members (sort rank l ++ sort rank m) (λ a b i j. one a b (in-parts a i) (in-parts b j)) (up x (List·Memᴰ·append-cases l (sort-in (l ++ m) h))))
+    where
+      down : (x : A) → (x ∈ sort rank l) ⊎ (x ∈ sort rank m) → x ∈ l ++ m
+      down x (inl h) = in-front l m (sort-in l h)
+      down x (inr h) = in-back l m (sort-in m h)
+
+      in-parts : (x : A) → x ∈ sort rank l ++ sort rank m → x ∈ l ++ m
+      in-parts x h = down x (List·Memᴰ·append-cases (sort rank l) h)
+
+      up : (x : A) → (x ∈ l) ⊎ (x ∈ m) → x ∈ sort rank l ++ sort rank m
+      up x (inl h) = in-front (sort rank l) (sort rank m) (in-sort-members l (λ a b i j. one a b (in-front l m i) (in-front l m j)) h)
+      up x (inr h) = in-back (sort rank l) (sort rank m) (in-sort-members m (λ a b i j. one a b (in-back l m i) (in-back l m j)) h)
+
+  -- members of a sorted list with one rank are one
+  pub sorted-one : (l : List A) → T (sorted l) → (x y : A) → x ∈ l → y ∈ l → rank x ≡ rank y → x ≡ y
+  sorted-one [] t x y h k e = absurd (List·Memᴰ·not-nil h)
+  sorted-one (z ∷ l) t x y h k e =
+      go (List·Memᴰ·cases-cons h) (List·Memᴰ·cases-cons k) (λ i j. sorted-one l (and-r (ahead z l) (sorted l) t) x y i j e)
+    where
+      first : (w : A) → w ∈ l → T (isBefore z w)
+      first w m = all-in (isBefore z) l (and-l (ahead z l) (sorted l) t) m
+
+      go : (x ≡ z) ⊎ (x ∈ l) → (y ≡ z) ⊎ (y ∈ l) → (x ∈ l → y ∈ l → x ≡ y) → x ≡ y
+      go (inl a) (inl b) f = a ∙ sym b
+      go (inl a) (inr b) f = absurd (precedes-irrefl (rank y) (subst (λ r. T (precedes r (rank y))) (ap rank (sym a) ∙ e) (first y b)))
+      go (inr a) (inl b) f = absurd (precedes-irrefl (rank x) (subst (λ r. T (precedes r (rank x))) (ap rank (sym b) ∙ sym e) (first x a)))
+      go (inr a) (inr b) f = f a b

@@ -61,6 +61,11 @@ prefix-antisym (a ∷ p) (b ∷ q) s t =
     ap₂ (λ (x : Step) (y : List Step). x ∷ y) (step-eq a b (and-l (sameStep a b) (isPrefix p q) s))
     (prefix-antisym p q (and-r (sameStep a b) (isPrefix p q) s) (and-r (sameStep b a) (isPrefix q p) t))
 
+pub parent-prefix : (p : List Step) → T (isPrefix (parent p) p)
+parent-prefix [] = tt
+parent-prefix (a ∷ []) = tt
+parent-prefix (a ∷ b ∷ p) = both (sameStep a a) (isPrefix (parent (b ∷ p)) (b ∷ p)) (step-refl a) (parent-prefix (b ∷ p))
+
 pub prefix-parent : (q p : List Step) → T (isPrefix q p) → (q ≡ p) ⊎ T (isPrefix q (parent p))
 prefix-parent [] p t = inr tt
 prefix-parent (a ∷ q) [] t = absurd t

@@ -8,14 +8,14 @@ use borrow.Author.Tests.{not-true, not-false, eq-eqb, ne-eqb, le-leb, lt-leb, lt
 use lib.ListN.{length, take, drop, length-drop}
 use native.Mathlib.Decide.{decLe}
 use lib.Dec.{T, eqb, leb, ltb}
-use Rattle.model.specs.Lists.{any, range}
+use Rattle.model.specs.Lists.{any, keep, range}
 use Rattle.model.specs.Path.{Step, samePath, isPrefix, stepsOf, key}
 use Rattle.model.specs.Element.{Element, rank, validElement, contains, remove}
 use Rattle.model.specs.Slot.{slotSize, depth, readPath, readSlot}
 use Rattle.model.specs.Partition.{layout, count, slotAt, slots, readPartition}
 use Rattle.model.specs.Call.{extending}
 use Rattle.model.proofs.Bools.{and-r, decide, is-true, is-false}
-use Rattle.model.proofs.Lists.{length-range}
+use Rattle.model.proofs.Lists.{length-range, take-range}
 use Rattle.model.proofs.Order.{sorted, ahead, ascending-sorted}
 use Rattle.model.proofs.Slots.{valid-fits}
 use Rattle.model.proofs.Partitions.{WellFormed, well-formed}
@@ -26,7 +26,7 @@ use Rattle.path.proofs.Common.{common-first, common-prefix, common-same-path, c
 use Rattle.slot.specs.Slot.{Readable}
 use Rattle.slot.proofs.Reading.{length-path}
 use Rattle.partition.specs.Place.{Formed, placeOf, Found}
-use Rattle.partition.proofs.Placing.{place-within, leading, remove-place, contains-after, contains-here}
+use Rattle.partition.proofs.Placing.{place-within, leading, remove-place, keep-place, contains-after, contains-here}
 
 -- ---- a well-formed partition
 
@@ -226,6 +226,16 @@ module _ {b : List ℕ} (f : Formed b) (p : List Step) {at k : ℕ} (e : at ≡ 
       let w : placeOf p (readPartition b) ≤ length (readPartition b) = place-within p (readPartition b) in
       let n : length (readPartition b) ≡ count b = ap length (elements-range b) ∙ length-range (elementAt b) 0 (count b) in
       omega arith
+
+  pub run-kept : keep (λ d. isPrefix p (d .path)) (readPartition b) ≡ range (elementAt b) at k
+  run-kept =
+      let w : at + k ≤ count b = run-within in
+      let x : 0 + at ≡ at = omega arith in
+      keep-place p (readPartition b) (formed-sorted f)
+      ∙ ap₂ (λ (m n : ℕ). take m (drop n (readPartition b))) (sym h) (sym e)
+      ∙ ap (λ (es : List Element). take k (drop at es)) (elements-range b)
+      ∙ ap (take k) (drop-range (elementAt b) at 0 (count b) (omega arith) ∙ ap (λ (m : ℕ). range (elementAt b) m (count b - at)) x)
+      ∙ take-range (elementAt b) k at (count b - at) (omega arith)
 
   pub run-removed : {x : List ℕ} → x ≡ layout (take at (readPartition b) ++ drop (at + k) (readPartition b)) → x ≡ layout (remove p (readPartition b))
   run-removed g =

@@ -18,7 +18,7 @@ use Rattle.model.proofs.Bools.{and-l, and-r, both, or-l, or-r, decide, same-tes
 use Rattle.model.proofs.Members.{_∈_, all-in, in-front, in-back}
 use Rattle.model.proofs.Dominance.{dominates-lower, dominates-antisym}
 use Rattle.model.proofs.Order.{precedes-irrefl, precedes-trans, sorted, ahead, ascending-sorted}
-use Rattle.model.proofs.Paths.{step-eq, step-refl, prefix-trans, prefix-parent, prefix-below, prefix-first, between-extends, key-keyed}
+use Rattle.model.proofs.Paths.{step-eq, prefix-trans, prefix-parent, prefix-below, prefix-first, between-extends, key-keyed, parent-prefix}
 use Rattle.model.proofs.Sets.{contains-in, in-contains, Closed, closed-facts, facts-closed}
 use Rattle.path.specs.Common.{isBefore}
 use Rattle.partition.specs.Linked.{mayFollow, linked}
@@ -29,11 +29,6 @@ use Rattle.partition.specs.Linked.{mayFollow, linked}
 parent-shorter : (a : Step) (p : List Step) → length (parent (a ∷ p)) < length (a ∷ p)
 parent-shorter a [] = omega arith
 parent-shorter a (b ∷ p) = let h : length (parent (b ∷ p)) < length (b ∷ p) = parent-shorter b p in omega arith
-
-pub parent-prefix : (p : List Step) → T (isPrefix (parent p) p)
-parent-prefix [] = tt
-parent-prefix (a ∷ []) = tt
-parent-prefix (a ∷ b ∷ p) = both (sameStep a a) (isPrefix (parent (b ∷ p)) (b ∷ p)) (step-refl a) (parent-prefix (b ∷ p))
 
 -- a path but the root ends in some label
 ends-some : (a : Step) (p : List Step) → (m : ℕ) × T (endsIn m (a ∷ p))

@@ -8,7 +8,7 @@ use native.Mathlib.Omega.{arith}
 use lib.ListN.{length, take, drop}
 use lib.Dec.{T}
 use mir.Facts.{or-no, not-T, T-not}
-use Rattle.model.specs.Lists.{any}
+use Rattle.model.specs.Lists.{any, keep}
 use Rattle.model.specs.Sets.{put}
 use Rattle.model.specs.Path.{Step, samePath, isPrefix, key, pathRank}
 use Rattle.model.specs.Element.{Element, rank, contains, remove}
@@ -148,6 +148,40 @@ module _ (p : List Step) where
       goes r =
           let z : leading p (e ∷ es) ≡ 0 + extending p (e ∷ es) = omega (arith, r .1) in
           (r .0 ∙ ap (λ (n : ℕ). drop n (e ∷ es)) z, r .1)
+
+  -- elements that do not come before the path: those that are kept stand first
+  kept-first : (es : List Element) → T (sorted rank es) → ((d : Element) → d ∈ es → T (not (isBefore (d .path) p)))
+      → keep (λ e. isPrefix p (e .path)) es ≡ take (leading p es) es
+  unfolding extending
+  kept-first [] s f = refl
+  kept-first (e ∷ es) s f =
+      decide (isPrefix p (e .path))
+      (λ (h : T (isPrefix p (e .path))).
+      rw (is-true (isPrefix p (e .path)) h)
+      (ap (λ (l : List Element). e ∷ l) (kept-first es (and-r (ahead rank e es) (sorted rank es) s) (λ d m. f d (List·Memᴰ·tail m)))))
+      (λ (h : T (not (isPrefix p (e .path)))).
+      let z : length (keep (λ d. isPrefix p (d .path)) (e ∷ es)) ≡ leading p (e ∷ es) = extends-first (e ∷ es) s f .1 in
+      let n : leading p (e ∷ es) ≡ 0 = rw (is-false (isPrefix p (e .path)) h) in
+      none-left (keep (λ d. isPrefix p (d .path)) (e ∷ es)) (z ∙ n) ∙ sym (ap (λ (k : ℕ). take k (e ∷ es)) n))
+    where
+      none-left : (l : List Element) → length l ≡ 0 → l ≡ []
+      none-left [] z = refl
+      none-left (d ∷ l) z = absurd (omega arith)
+
+  -- so in a whole set they stand together at the path's place
+  pub keep-place : (es : List Element) → T (sorted rank es)
+      → keep (λ e. isPrefix p (e .path)) es ≡ take (extending p es) (drop (placeOf p es) es)
+  unfolding extending
+  keep-place [] s = refl
+  keep-place (e ∷ es) s =
+      decide (isBefore (e .path) p)
+      (λ (b : T (isBefore (e .path) p)).
+      let h : T (not (isPrefix p (e .path))) = not-T (isPrefix p (e .path)) (λ k. T-not (isBefore (e .path) p) b (extends-after p (e .path) k)) in
+      rw (is-true (isBefore (e .path) p) b, is-false (isPrefix p (e .path)) h) (keep-place es (and-r (ahead rank e es) (sorted rank es) s)))
+      (λ (b : T (not (isBefore (e .path) p))).
+      rw (is-false (isBefore (e .path) p) b)
+      (kept-first (e ∷ es) s (none-before p e es s b)
+      ∙ ap (λ (k : ℕ). take k (e ∷ es)) (sym (extends-first (e ∷ es) s (none-before p e es s b) .1))))
 
 -- ---- finding
 

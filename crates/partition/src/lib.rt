@@ -1,6 +1,5 @@
 // Partitions: the 1,284 bytes of one label.
 ghost use mathlib.Core.Path.{_≡_};
-ghost use mathlib.Core.Bool.{Bool, not, _&&_, _||_};
 ghost use mathlib.Core.List.{[], _++_};
 ghost use Prim.Native.Nat.{ℕ, _+_, _<_, _≤_};
 ghost use lib.ListN.{length, take, drop};
@@ -161,7 +160,7 @@ pub fn find(part: &[u8], path: &[u8]) -> Place
 }
 
 // How many elements, from slot at on, have the path or extend it.
-fn run_length(part: &[u8], at: usize, path: &[u8]) -> usize
+pub fn run_length(part: &[u8], at: usize, path: &[u8]) -> usize
     requires { ⌜ Formed (now part) × (at ≡ placeOf (stepsOf (now path)) (readPartition (now part))) ⌝ }
     ensures { λ r. ⌜ r ≡ extending (stepsOf (now (path .entry))) (readPartition (now (part .entry))) ⌝ }
 {

@@ -1,6 +1,6 @@
 // Paths that a caller lends: three bytes a step, the name lowest byte first, then the label.
 ghost use mathlib.Core.Path.{_≡_};
-ghost use Prim.Native.Nat.{_+_, _*_, _<_, _≤_};
+ghost use Prim.Native.Nat.{_+_, _*_, _<_};
 ghost use lib.ListN.{length};
 ghost use lib.Dec.{T};
 ghost use Rattle.model.specs.Path.{endsIn, stepsOf};

@@ -87,6 +87,11 @@ module _ (b : List ℕ) (size : length b ≡ slotSize) {n : ℕ} (e : (n ≡ val
   unfolding storable readContent
   value-short f g = g ∙ ap₂ (λ (x y : ℕ). allowed x (between valueAt (valueAt + y) b)) (f .0) (e .0)
 
+-- the value as a part
+pub value-part : (b : List ℕ) {n : ℕ} → (n ≡ valueLength b) × (n < 256) → between valueAt (valueAt + n) b ≡ readContent b .value
+unfolding readContent
+value-part b e = ap (λ (m : ℕ). between valueAt (valueAt + m) b) (e .0)
+
 -- ---- the whole slot
 
 module _ (n : ℕ) (b : List ℕ) {r : Bool} (f : r ≡ (validPath (readPath b) && endsIn n (readPath b))) where

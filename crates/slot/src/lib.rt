@@ -36,12 +36,37 @@ pub fn value_length(slot: &[u8]) -> usize
     octets::index(slot[20])
 }
 
+// The name of step i of a slot's path.
+pub fn step_name(slot: &[u8], i: usize) -> u32
+    requires { ⌜ (length (now slot) ≡ slotSize) × (i < 6) ⌝ }
+    ensures { λ r. ⌜ (r ≡ stepAt (now (slot .entry)) i .name) × (r < 65536) ⌝ }
+{
+    octets::wide(slot[1 + 2 * i]) + 256 * octets::wide(slot[1 + 2 * i + 1])
+}
+
 // The label of step i of a slot's path.
 pub fn step_label(slot: &[u8], i: usize) -> u8
     requires { ⌜ (length (now slot) ≡ slotSize) × (i < 6) ⌝ }
     ensures { λ r. ⌜ r ≡ stepAt (now (slot .entry)) i .label ⌝ }
 {
     slot[13 + i]
+}
+
+// The kind of a slot's value.
+pub fn kind_of(slot: &[u8]) -> u8
+    requires { ⌜ length (now slot) ≡ slotSize ⌝ }
+    ensures { λ r. ⌜ r ≡ readContent (now (slot .entry)) .kind ⌝ }
+{
+    slot[19]
+}
+
+// A slot's value: that part of the slot.
+pub fn value_of(slot: &[u8]) -> &[u8]
+    requires { ⌜ (length (now slot) ≡ slotSize) × (valueLength (now slot) ≤ 16) ⌝ }
+    ensures { λ r. ⌜ now r ≡ readContent (now (slot .entry)) .value ⌝ }
+{
+    let end = 21 + value_length(slot);
+    &slot[21..end]
 }
 
 // The key of step i of a slot's path.

@@ -1,0 +1,57 @@
+// The fields of a record's head: byte 0 what is to be done, 1 and 2 the lengths of the two texts, then from byte 4 on four words,
+// lowest byte first: a subject or an offset, a kind, the output's length and the store's.
+ghost use Prim.Native.Nat.{_≤_};
+
+// The length of a text.
+pub fn length(x: u8) -> usize
+    ensures { λ r. ⌜ r ≤ 255 ⌝ }
+{
+    octets::index(x)
+}
+
+// The word of four bytes, lowest first.
+fn word(a: u8, b: u8, c: u8, d: u8) -> u32 {
+    octets::wide(a) + 256 * octets::wide(b) + 65536 * octets::wide(c) + 16777216 * octets::wide(d)
+}
+
+// The subject of a call.
+pub fn subject(head: &[u8; 20]) -> u32 {
+    word(head[4], head[5], head[6], head[7])
+}
+
+// The kind of the value.
+pub fn kind(head: &[u8; 20]) -> u32 {
+    word(head[8], head[9], head[10], head[11])
+}
+
+// The smaller of a word and a bound.
+fn at_most(x: u32, most: usize) -> usize
+    ensures { λ r. ⌜ r ≤ most ⌝ }
+{
+    let n = x as usize;
+    if most < n {
+        return most;
+    }
+    n
+}
+
+// Where bytes come onto the store, at most a bound.
+pub fn offset(head: &[u8; 20], most: usize) -> usize
+    ensures { λ r. ⌜ r ≤ most ⌝ }
+{
+    at_most(subject(head), most)
+}
+
+// The length of the output, at most a bound.
+pub fn output_length(head: &[u8; 20], most: usize) -> usize
+    ensures { λ r. ⌜ r ≤ most ⌝ }
+{
+    at_most(word(head[12], head[13], head[14], head[15]), most)
+}
+
+// The length of the store, at most a bound.
+pub fn store_length(head: &[u8; 20], most: usize) -> usize
+    ensures { λ r. ⌜ r ≤ most ⌝ }
+{
+    at_most(word(head[16], head[17], head[18], head[19]), most)
+}

@@ -1,0 +1,122 @@
+// Records carried out.
+use crate::fields;
+use crate::show;
+use libc::STDOUT_FILENO;
+ghost use Prim.Native.Nat.{_≤_};
+
+// One record, by its first byte: the calls have the letters of the runner, N names the case, Z clears the store, X corrupts it,
+// S shows it.
+pub fn record(
+    store: &mut [u8; 42372],
+    output: &mut [u8; 65536],
+    head: &[u8; 20],
+    first: &[u8],
+    second: &[u8],
+) {
+    match head[0] {
+        b'V' => view(store, output, head, first),
+        b'I' => insert(store, head, first, second),
+        b'U' => update(store, head, first, second),
+        b'D' => delete(store, head, first),
+        b'X' => corrupt(store, head, first),
+        b'Z' => fill(store, 0),
+        b'S' => show::store(store),
+        _ => show::line(first),
+    }
+}
+
+// Bytes that come onto the store, as many as it has room for from the offset on.
+fn corrupt(store: &mut [u8], head: &[u8; 20], from: &[u8]) {
+    let at = fields::offset(head, store.len());
+    let n = least(from.len(), store.len() - at);
+    let end = at + n;
+    bytes::copy(&from[0..n], &mut store[at..end]);
+}
+
+// An insert, on as many bytes of the store as the head says.
+fn insert(store: &mut [u8], head: &[u8; 20], path: &[u8], value: &[u8]) {
+    let size = fields::store_length(head, store.len());
+    let done = dossier::insert(
+        &mut store[0..size],
+        fields::subject(head),
+        path,
+        fields::kind(head),
+        value,
+    );
+    show::answer(b"I", done.number, done.count);
+}
+
+// An update.
+fn update(store: &mut [u8], head: &[u8; 20], path: &[u8], value: &[u8]) {
+    let size = fields::store_length(head, store.len());
+    let done = dossier::update(
+        &mut store[0..size],
+        fields::subject(head),
+        path,
+        fields::kind(head),
+        value,
+    );
+    show::answer(b"U", done.number, done.count);
+}
+
+// A delete.
+fn delete(store: &mut [u8], head: &[u8; 20], path: &[u8]) {
+    let size = fields::store_length(head, store.len());
+    let done = dossier::delete(&mut store[0..size], fields::subject(head), path);
+    show::answer(b"D", done.number, done.count);
+}
+
+// A view, into as many bytes of the output as the head says.
+fn view(store: &[u8], output: &mut [u8], head: &[u8; 20], path: &[u8]) {
+    let size = fields::store_length(head, store.len());
+    let n = fields::output_length(head, output.len());
+    view_into(
+        &store[0..size],
+        fields::subject(head),
+        path,
+        &mut output[0..n],
+    );
+}
+
+// A view into an output of one byte throughout; of what the view did not write, every byte must be as it was.
+fn view_into(store: &[u8], subject: u32, path: &[u8], output: &mut [u8]) {
+    fill(output, 170);
+    let done = dossier::view(store, subject, path, output);
+    show::answer(b"V", done.number, done.count);
+    let n = least(done.count, output.len());
+    io::write_all(STDOUT_FILENO, &output[0..n]);
+    if !is_filled(&output[n..]) {
+        show::line(b"written behind the listing");
+    }
+}
+
+// The smaller of two lengths.
+fn least(a: usize, b: usize) -> usize
+    ensures { λ r. ⌜ (r ≤ a) × (r ≤ b) ⌝ }
+{
+    if b < a {
+        return b;
+    }
+    a
+}
+
+// Sets every byte to x.
+fn fill(s: &mut [u8], x: u8) {
+    let mut i: usize = 0;
+    while i < s.len() {
+        s[i] = x;
+        i += 1;
+    }
+}
+
+// Whether every byte is 170.
+fn is_filled(s: &[u8]) -> bool {
+    let mut i: usize = 0;
+    while i < s.len() {
+        if s[i] != 170 {
+            return false;
+        }
+        i += 1;
+    }
+    true
+}

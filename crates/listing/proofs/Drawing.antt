@@ -1,0 +1,122 @@
+-- The lines of a slot's element: the removed prefixes of its path, and its own.
+use mathlib.Core.Path.{_≡_, refl, sym, ap, ap₂, _∙_}
+use mathlib.Core.Bool.{true, _&&_}
+use mathlib.Core.Option.{Option, none, some}
+use mathlib.Core.List.{List, [], _∷_, _++_}
+use Prim.Native.Nat.{ℕ, suc, _+_, _-_, _≤_, _<_}
+use native.Mathlib.Omega.{arith}
+use native.Mathlib.Numerals.{add-one}
+use lib.ListN.{length, take, drop-of-length-le}
+use lib.Seq.{length-take-le, take-all}
+use lib.Dec.{T}
+use mir.Facts.{leb-yes, not-T}
+use Rattle.model.specs.Lists.{gather}
+use Rattle.model.specs.Path.{Step, samePath, prefixes, lastStep, endsIn, validPath}
+use Rattle.model.specs.Value.{Content, allowed, storable}
+use Rattle.model.specs.Element.{Element, validElement}
+use Rattle.model.specs.Slot.{depth, stepAt, valueLength, readPath, readContent, readSlot}
+use Rattle.model.specs.View.{contentAt, pathLine}
+use Rattle.model.proofs.Lists.{take-range}
+use Rattle.model.proofs.Bools.{and-l, and-r, cond-yes, cond-no, is-true}
+use Rattle.model.proofs.Paths.{same-eq, same-refl}
+use Rattle.path.proofs.Steps.{last-range}
+use Rattle.slot.proofs.Reading.{length-path, short-steps, short-value}
+use Rattle.text.specs.Line.{lineOf}
+use Rattle.listing.specs.Used.{Used, linesFrom}
+use Rattle.listing.proofs.Newer.{prefix-at, length-prefixes}
+
+-- ---- what is known of a used slot
+
+module _ {b : List ℕ} (used : Used b) where
+  path-valid : true ≡ (validPath (readPath b) && endsIn (used .label) (readPath b))
+  unfolding validElement readSlot
+  path-valid = sym (is-true _ (and-l (validPath (readPath b) && endsIn (used .label) (readPath b)) (storable (readContent b)) (used .valid)))
+
+  content-valid : T (storable (readContent b))
+  unfolding validElement readSlot
+  content-valid = and-r (validPath (readPath b) && endsIn (used .label) (readPath b)) (storable (readContent b)) (used .valid)
+
+  pub used-some : 1 ≤ depth b
+  unfolding validPath
+  used-some =
+      let t : T (validPath (readPath b) && endsIn (used .label) (readPath b)) = rw (← path-valid) tt in
+      let h : 1 ≤ length (readPath b) = leb-yes (search (and-l, and-r)) in
+      rw (length-path b) at h
+
+  pub used-steps : depth b ≤ 6
+  used-steps = short-steps (used .label) b path-valid refl (sym (is-true _ content-valid)) refl
+
+  pub used-value : valueLength b ≤ 16
+  used-value = short-value (used .label) b path-valid refl (sym (is-true _ content-valid)) refl (used .size)
+
+  -- the kind and value as they are read
+  pub used-content : {k : ℕ} {v : List ℕ} → k ≡ readContent b .kind → v ≡ readContent b .value → T (allowed k v)
+  unfolding storable
+  used-content e f = rw (e, f) content-valid
+
+-- ---- the first steps of a slot's path
+
+last-step : (b : List ℕ) (d : ℕ) → d < depth b → lastStep (take (suc d) (readPath b)) ≡ some (stepAt b d)
+unfolding readPath
+last-step b d h =
+    let e : 0 + d ≡ d = omega arith in
+    ap lastStep (take-range (stepAt b) (suc d) 0 (depth b) (omega arith)) ∙ last-range (stepAt b) 0 d ∙ ap (λ (i : ℕ). some (stepAt b i)) e
+
+-- ---- lines by what they show
+
+-- a path with the last step a
+path-line : (e : Element) (p : List Step) {d : ℕ} {a : Step} {c : Option Content} → length p ≡ d → lastStep p ≡ some a
+    → contentAt (e ∷ []) p ≡ c → lineOf d a c ≡ pathLine (e ∷ []) p
+unfolding lineOf pathLine
+path-line e p l t s = sym (rw (l, t, s) refl)
+
+-- no content stands at a path that is shorter
+content-shorter : (e : Element) (p : List Step) → length p < length (e .path) → contentAt (e ∷ []) p ≡ none
+content-shorter e p h =
+    cond-no (samePath p (e .path)) (some (e .content)) none
+    (not-T (samePath p (e .path)) (λ t. let k : length p ≡ length (e .path) = ap length (same-eq p (e .path) t) in omega arith))
+
+content-own : (e : Element) → contentAt (e ∷ []) (e .path) ≡ some (e .content)
+content-own e = cond-yes (samePath (e .path) (e .path)) (some (e .content)) none (same-refl (e .path))
+
+-- the line of the first d + 1 steps, by the numbers read
+pub above-line : (b : List ℕ) (d : ℕ) → d + 1 < depth b → {x n m l : ℕ} → x ≡ d + 1 → (n ≡ stepAt b d .name) × (n < 65536)
+    → m ≡ stepAt b d .label → (l ≡ m) × (l < 256)
+    → lineOf x (record { name = n; label = l }) none ≡ pathLine (readSlot b ∷ []) (take (d + 1) (readPath b))
+unfolding readSlot
+above-line b d h ex en em el =
+    let l : length (readPath b) ≡ depth b = length-path b in
+    let k : length (take (d + 1) (readPath b)) ≡ d + 1 = length-take-le (d + 1) (readPath b) (omega arith) in
+    let t : lastStep (take (d + 1) (readPath b)) ≡ some (stepAt b d) =
+    ap (λ (n : ℕ). lastStep (take n (readPath b))) (add-one d) ∙ last-step b d (omega arith) in
+    let c : contentAt (readSlot b ∷ []) (take (d + 1) (readPath b)) ≡ none = content-shorter (readSlot b) (take (d + 1) (readPath b)) (omega arith) in
+    rw (ex, en .0, el .0, em) (path-line (readSlot b) (take (d + 1) (readPath b)) k t c)
+
+-- the line of the whole path, by the numbers and the value read
+pub own-line : (b : List ℕ) → 1 ≤ depth b → {d x n m l k : ℕ} {v : List ℕ} → (d ≡ depth b) × (d < 256) → x ≡ d
+    → (n ≡ stepAt b (d - 1) .name) × (n < 65536) → m ≡ stepAt b (d - 1) .label → (l ≡ m) × (l < 256)
+    → k ≡ readContent b .kind → v ≡ readContent b .value
+    → lineOf x (record { name = n; label = l }) (some (record { kind = k; value = v })) ≡ pathLine (readSlot b ∷ []) (readPath b)
+unfolding readSlot
+own-line b h {d} ed ex en em el ek ev =
+    let l : length (readPath b) ≡ d = length-path b ∙ sym (ed .0) in
+    let s : suc (d - 1) ≡ d = omega (arith, ed .0) in
+    let t : lastStep (readPath b) ≡ some (stepAt b (d - 1)) =
+    ap lastStep (sym (take-all (suc (d - 1)) (readPath b) (omega arith))) ∙ last-step b (d - 1) (omega (arith, ed .0)) in
+    rw (ex, en .0, el .0, em, ek, ev) (path-line (readSlot b) (readPath b) l t (content-own (readSlot b)))
+
+-- ---- the lines from one prefix on
+
+pub lines-more : (b : List ℕ) (d : ℕ) → d < depth b
+    → linesFrom d b ≡ pathLine (readSlot b ∷ []) (take (d + 1) (readPath b)) ++ linesFrom (d + 1) b
+lines-more b d h =
+    let l : length (readPath b) ≡ depth b = length-path b in
+    ap (gather (pathLine (readSlot b ∷ []))) (prefix-at d (readPath b) (omega arith)) ∙ rw (add-one d)
+
+pub lines-last : (b : List ℕ) (d : ℕ) → d + 1 ≡ depth b → linesFrom d b ≡ pathLine (readSlot b ∷ []) (readPath b) ++ []
+lines-last b d h =
+    let l : length (readPath b) ≡ depth b = length-path b in
+    let k : length (prefixes (readPath b)) ≡ length (readPath b) = length-prefixes (readPath b) in
+    lines-more b d (omega arith)
+    ∙ ap₂ (λ (x : List Step) (y : List (List Step)). pathLine (readSlot b ∷ []) x ++ gather (pathLine (readSlot b ∷ [])) y)
+    (take-all (d + 1) (readPath b) (omega arith)) (drop-of-length-le (prefixes (readPath b)) {i = d + 1} (omega arith))

@@ -1,0 +1,5 @@
+-- Laws of what is laid over an output, for the proofs here and in the crates above; numbers, values and lines.
+pub mod Overlays
+pub mod Numbers
+pub mod Showing
+pub mod Lines

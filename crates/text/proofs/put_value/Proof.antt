@@ -1,0 +1,36 @@
+-- `text::put_value`: as the rule of the kind says.
+use native.Mathlib.Omega.{arith}
+use borrow.Author.Needs.{needs}
+use Rattle.model.proofs.Slots.{allowed-length}
+use Rattle.kind.proofs.Rules.{shown-none}
+use Rattle.text.proofs.Showing.{measure-length, as-number, as-text}
+use Rattle.text.proofs.Overlays.{wrote-as}
+use Rattle.text.proofs.put_value.Statement.{statement}
+use Rattle.text.proofs.put_value.Tie as tie
+
+pub put-value-spec : {M : Type 1} → statement M
+put-value-spec =
+    tie.close
+    (tie.spec
+    (λ c. search needs)  -- wide-requires
+    (λ c. search needs)  -- rule-of-requires
+    (λ c κs. measure-length _ (c .before .before .before .before .before .before .pre .1) (c .before .before .before .wide .ensures) (c .before .before .rule-of .ensures) (c .before .if1 .taken))  -- measure-of-requires
+    (λ c. search needs)  -- put-signed-requires
+    (λ c. search needs)  -- same-length
+    (λ c.
+    let number = c .before .before .put-signed .ensures in
+    let shows = as-number _ (c .before .before .before .before .before .before .before .before .before .before .pre .1) (c .before .before .before .before .before .before .before .wide .ensures) (c .before .before .before .before .before .before .rule-of .ensures) (c .before .before .before .before .before .if1 .taken) (c .before .before .before .measure-of .ensures) in
+    (wrote-as shows (number .0), omega (arith, number .1)))  -- returns
+    (λ c. search needs)  -- put-byte-requires
+    (λ c. search needs)  -- same-length-2
+    (λ c.
+    let dash = c .before .before .put-byte .ensures in
+    (wrote-as (shown-none _ _ (c .before .before .before .before .before .before .before .before .before .before .pre .1) (c .before .before .before .before .if2 .taken)) dash, omega (arith, dash .ends)))  -- returns-2
+    (λ c κs. omega (arith, allowed-length _ _ (c .before .before .before .before .before .before .before .pre .1)))  -- put-bytes-requires
+    (λ c. search needs)  -- same-length-3
+    (λ c.
+    let text = c .before .before .put-bytes .ensures in
+    let start = c .before .before .before .before .before .before .before .before .before .before in
+    let shows = as-text _ (start .pre .1) (c .before .before .before .before .before .before .before .wide .ensures) (c .before .before .before .before .before .before .rule-of .ensures) (c .before .before .before .before .before .if1 .left) (c .before .before .before .before .if2 .left) in
+    (wrote-as shows text, omega (arith, text .ends, allowed-length _ _ (start .pre .1))))  -- returns-3
+    )

@@ -1,0 +1,176 @@
+// Numbers and lines put into an output from a place on. What lies past the output's end is counted and not written, so that a dry
+// run over an empty part measures.
+ghost use mathlib.Core.Path.{_≡_};
+ghost use mathlib.Core.Option.{none, some};
+ghost use mathlib.Core.List.{[], _∷_, _++_};
+ghost use Prim.Native.Nat.{_+_, _≤_, _<_};
+ghost use lib.ListN.{length};
+ghost use lib.Dec.{T};
+ghost use Rattle.model.specs.Value.{allowed};
+ghost use Rattle.model.specs.Text.{decimal, measureOf, signed};
+ghost use Rattle.model.specs.View.{letter, shown, headLine};
+ghost use Rattle.text.specs.Overlay.{Wrote};
+ghost use Rattle.text.specs.Line.{lineOf, numberField, lineStart};
+
+// One byte.
+pub fn put_byte(out: &mut [u8], at: usize, b: u8) -> usize
+    requires { ⌜ at < 4294967296 ⌝ }
+    ensures { λ r. ⌜ Wrote (now (out .entry)) at (b ∷ []) (now (out .exit)) r ⌝ }
+{
+    if out.len() <= at {
+        return at + 1;
+    }
+    out[at] = b;
+    at + 1
+}
+
+// The bytes of s.
+pub fn put_bytes(out: &mut [u8], at: usize, s: &[u8]) -> usize
+    requires { ⌜ at + length (now s) ≤ 4294967296 ⌝ }
+    ensures { λ r. ⌜ Wrote (now (out .entry)) at (now (s .entry)) (now (out .exit)) r ⌝ }
+{
+    let mut i: usize = 0;
+    while i < s.len() {
+        put_byte(out, at + i, s[i]);
+        i += 1;
+    }
+    at + i
+}
+
+// The digit of a number below ten.
+fn digit(n: u32) -> u8
+    requires { ⌜ n < 10 ⌝ }
+    ensures { λ r. ⌜ r ≡ 48 + n ⌝ }
+{
+    48 + n as u8
+}
+
+// A number in decimal.
+pub fn put_decimal(out: &mut [u8], at: usize, n: u32) -> usize
+    requires { ⌜ at + 10 < 4294967296 ⌝ }
+    ensures { λ r. ⌜ Wrote (now (out .entry)) at (decimal n) (now (out .exit)) r ⌝ }
+    ensures { λ r. ⌜ r ≤ at + 10 ⌝ }
+{
+    if n < 10 {
+        return put_byte(out, at, digit(n));
+    }
+    let last = put_decimal(out, at, n / 10);
+    put_byte(out, last, digit(n % 10))
+}
+
+// The number that a measure's four bytes hold, lowest first.
+pub fn measure_of(v: &[u8]) -> u32
+    requires { ⌜ length (now v) ≡ 4 ⌝ }
+    ensures { λ r. ⌜ r ≡ measureOf (now (v .entry)) ⌝ }
+{
+    octets::wide(v[0])
+        + 256 * octets::wide(v[1])
+        + 65536 * octets::wide(v[2])
+        + 16777216 * octets::wide(v[3])
+}
+
+// A number of 32 bits as a signed number in decimal, with a minus sign if it is negative.
+pub fn put_signed(out: &mut [u8], at: usize, m: u32) -> usize
+    requires { ⌜ at + 11 < 4294967296 ⌝ }
+    ensures { λ r. ⌜ Wrote (now (out .entry)) at (signed m) (now (out .exit)) r ⌝ }
+    ensures { λ r. ⌜ r ≤ at + 11 ⌝ }
+{
+    if m < 2147483648 {
+        return put_decimal(out, at, m);
+    }
+    let digits = put_byte(out, at, b'-');
+    put_decimal(out, digits, 4294967295 - m + 1)
+}
+
+// A value as it is shown: a number in decimal, - for no bytes, and else the bytes.
+pub fn put_value(out: &mut [u8], at: usize, kind: u8, value: &[u8]) -> usize
+    requires { ⌜ at + 16 < 4294967296 ⌝ }
+    requires { ⌜ T (allowed kind (now value)) ⌝ }
+    ensures { λ r. ⌜ Wrote (now (out .entry)) at (shown kind (now (value .entry))) (now (out .exit)) r ⌝ }
+    ensures { λ r. ⌜ r ≤ at + 16 ⌝ }
+{
+    let rule = kind::rule_of(octets::wide(kind));
+    if rule.number {
+        return put_signed(out, at, measure_of(value));
+    }
+    if value.len() == 0 {
+        return put_byte(out, at, b'-');
+    }
+    put_bytes(out, at, value)
+}
+
+// A number and a tab.
+fn put_field(out: &mut [u8], at: usize, n: u32) -> usize
+    requires { ⌜ at + 11 < 4294967296 ⌝ }
+    ensures { λ r. ⌜ Wrote (now (out .entry)) at (numberField n) (now (out .exit)) r ⌝ }
+    ensures { λ r. ⌜ r ≤ at + 11 ⌝ }
+{
+    let end = put_decimal(out, at, n);
+    put_byte(out, end, b'\t')
+}
+
+// Depth, name and label, each with a tab.
+fn put_start(out: &mut [u8], at: usize, depth: u32, name: u32, label: u32) -> usize
+    requires { ⌜ at + 33 < 4294967296 ⌝ }
+    ensures { λ r. ⌜ Wrote (now (out .entry)) at (lineStart depth (record { name = name; label = label })) (now (out .exit)) r ⌝ }
+    ensures { λ r. ⌜ r ≤ at + 33 ⌝ }
+{
+    let second = put_field(out, at, depth);
+    let third = put_field(out, second, name);
+    put_field(out, third, label)
+}
+
+// The line of a removed element.
+pub fn put_removed(out: &mut [u8], at: usize, depth: u32, name: u32, label: u32) -> usize
+    requires { ⌜ at + 64 < 4294967296 ⌝ }
+    ensures { λ r. ⌜ Wrote (now (out .entry)) at (lineOf depth (record { name = name; label = label }) none) (now (out .exit)) r ⌝ }
+    ensures { λ r. ⌜ r ≤ at + 64 ⌝ }
+{
+    let mark = put_start(out, at, depth, name, label);
+    put_bytes(out, mark, b"R\t-\t-\n")
+}
+
+// Kind and value of a live element, up to the line's end.
+fn put_content(out: &mut [u8], at: usize, kind: u8, value: &[u8]) -> usize
+    requires { ⌜ at + 19 < 4294967296 ⌝ }
+    requires { ⌜ T (allowed kind (now value)) ⌝ }
+    ensures { λ r. ⌜ Wrote (now (out .entry)) at (letter kind ++ (9 ∷ (shown kind (now (value .entry)) ++ (10 ∷ [])))) (now (out .exit)) r ⌝ }
+    ensures { λ r. ⌜ r ≤ at + 19 ⌝ }
+{
+    let tab = put_byte(out, at, kind::letter_of(octets::wide(kind)));
+    let shown = put_byte(out, tab, b'\t');
+    let end = put_value(out, shown, kind, value);
+    put_byte(out, end, b'\n')
+}
+
+// The line of a live element.
+pub fn put_live(
+    out: &mut [u8],
+    at: usize,
+    depth: u32,
+    name: u32,
+    label: u32,
+    kind: u8,
+    value: &[u8],
+) -> usize
+    requires { ⌜ at + 64 < 4294967296 ⌝ }
+    requires { ⌜ T (allowed kind (now value)) ⌝ }
+    ensures { λ r. ⌜ Wrote (now (out .entry)) at (lineOf depth (record { name = name; label = label }) (some (record { kind = kind; value = now (value .entry) }))) (now (out .exit)) r ⌝ }
+    ensures { λ r. ⌜ r ≤ at + 64 ⌝ }
+{
+    let mark = put_start(out, at, depth, name, label);
+    let letter = put_bytes(out, mark, b"P\t");
+    put_content(out, letter, kind, value)
+}
+
+// The first line of a listing: the subject and how many lines follow.
+pub fn put_head(out: &mut [u8], at: usize, subject: u32, lines: u32) -> usize
+    requires { ⌜ at + 64 < 4294967296 ⌝ }
+    ensures { λ r. ⌜ Wrote (now (out .entry)) at (headLine subject lines) (now (out .exit)) r ⌝ }
+    ensures { λ r. ⌜ r ≤ at + 64 ⌝ }
+{
+    let first = put_bytes(out, at, b"VIEW\t");
+    let second = put_field(out, first, subject);
+    let end = put_decimal(out, second, lines);
+    put_byte(out, end, b'\n')
+}
