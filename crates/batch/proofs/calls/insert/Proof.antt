@@ -1,0 +1,21 @@
+-- `calls::insert`: the value is brought, then the call.
+use borrow.Author.Needs.{needs}
+use native.Mathlib.Omega.{arith}
+use Rattle.model.specs.Call.{insert}
+use Rattle.batch.proofs.Doings.{brought-did}
+use Rattle.batch.proofs.calls.insert.Statement.{statement}
+use Rattle.batch.proofs.calls.insert.Tie as tie
+
+pub insert-spec : {M : Type 1} → statement M
+insert-spec =
+    tie.close
+    (tie.spec
+    (λ c. search needs)  -- slice-aggregate-bring
+    (λ c κs. (c .before .before .before .before .pre, omega arith))  -- bring-requires
+    (λ c. search needs)  -- sub-insert
+    (λ c. search needs)  -- part-insert-start
+    (λ c. search needs)  -- part-insert-end
+    (λ c. search needs)  -- insert-requires
+    (λ c. search needs)  -- same-length
+    (λ c. brought-did (insert (c .before .before .before .before .before .before .before .before .before .before .before .before .args .path .now)) (c .before .before .before .before .before .before .before .before .before .before .before .before .args .line .now) (c .before .before .before .before .before .before .before .before .before .before .before .before .args .v) (c .before .before .before .before .before .before .before .bring .result .size) (c .before .before .before .before .before .before .before .bring .last .1 .1 .0) (c .before .before .before .before .before .before .before .bring .ensures .0) (c .before .before .insert .ensures))  -- returns
+    )

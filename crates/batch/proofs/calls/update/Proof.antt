@@ -1,0 +1,21 @@
+-- `calls::update`: the value is brought, then the call.
+use borrow.Author.Needs.{needs}
+use native.Mathlib.Omega.{arith}
+use Rattle.model.specs.Call.{update}
+use Rattle.batch.proofs.Doings.{brought-did}
+use Rattle.batch.proofs.calls.update.Statement.{statement}
+use Rattle.batch.proofs.calls.update.Tie as tie
+
+pub update-spec : {M : Type 1} → statement M
+update-spec =
+    tie.close
+    (tie.spec
+    (λ c. search needs)  -- slice-aggregate-bring
+    (λ c κs. (c .before .before .before .before .pre, omega arith))  -- bring-requires
+    (λ c. search needs)  -- sub-update
+    (λ c. search needs)  -- part-update-start
+    (λ c. search needs)  -- part-update-end
+    (λ c. search needs)  -- update-requires
+    (λ c. search needs)  -- same-length
+    (λ c. brought-did (update (c .before .before .before .before .before .before .before .before .before .before .before .before .args .path .now)) (c .before .before .before .before .before .before .before .before .before .before .before .before .args .line .now) (c .before .before .before .before .before .before .before .before .before .before .before .before .args .v) (c .before .before .before .before .before .before .before .bring .result .size) (c .before .before .before .before .before .before .before .bring .last .1 .1 .0) (c .before .before .before .before .before .before .before .bring .ensures .0) (c .before .before .update .ensures))  -- returns
+    )

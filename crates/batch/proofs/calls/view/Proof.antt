@@ -1,0 +1,18 @@
+-- `calls::view`: the call on the first part of the output.
+use borrow.Author.Needs.{needs}
+use Rattle.batch.proofs.Doings.{view-performed}
+use Rattle.batch.proofs.calls.view.Statement.{statement}
+use Rattle.batch.proofs.calls.view.Tie as tie
+
+pub view-spec : {M : Type 1} → statement M
+view-spec =
+    tie.close
+    (tie.spec
+    (λ c. search needs)  -- sub-view
+    (λ c. search needs)  -- part-view-start
+    (λ c. search needs)  -- part-view-end
+    (λ c. search needs)  -- view-requires
+    (λ c. search needs)  -- same-length
+    (λ c. search needs)  -- same-length-2
+    (λ c. view-performed _ _ (c .before .before .before .before .before .before .before .before .args .path .now) (c .before .before .before .before .before .before .before .before .args .out .now) 16384 (c .before .before .before .before .before .before .before .before .pre) (c .before .before .view .ensures))  -- returns
+    )

@@ -1,0 +1,17 @@
+// The call runner: a script on standard input, and what its calls print on standard output.
+use libc::STDIN_FILENO;
+ghost use mathlib.Core.Path.{_≡_};
+ghost use Rattle.model.specs.Store.{emptyStore};
+
+// The store is empty at first.
+fn main() {
+    let mut store = [0u8; 41088];
+    start(&mut store);
+}
+
+// Carries out the script from the empty store.
+fn start(store: &mut [u8])
+    requires { ⌜ now store ≡ emptyStore ⌝ }
+{
+    console::run(STDIN_FILENO, store);
+}

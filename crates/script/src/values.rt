@@ -1,0 +1,119 @@
+// Values as they stand at the end of a line: a kind letter, a tab and what stands for the value.
+ghost use mathlib.Core.Path.{_≡_};
+ghost use Prim.Native.Nat.{_≤_, _<_};
+ghost use lib.ListN.{length, drop};
+ghost use Rattle.model.specs.Lists.{all};
+ghost use Rattle.model.specs.Value.{isPrintable};
+ghost use Rattle.script.specs.Values.{WholeAt, ShownAt, ValueAt};
+use crate::Value;
+use crate::numbers;
+use crate::numbers::Number;
+use crate::places;
+
+// A value, if one stands there.
+pub enum ValueRead {
+    Is(Value),
+    None,
+}
+
+// A number that ends with the line.
+enum Whole {
+    Is(u64),
+    None,
+}
+
+// The number that is the line from at on, at most most.
+fn whole_at(line: &[u8], at: usize, most: u64) -> Whole
+    requires { ⌜ at ≤ length (now line) ⌝ }
+    requires { ⌜ most < 4294967296 ⌝ }
+    ensures { λ r. ⌜ WholeAt most (now (line .entry)) at r ⌝ }
+{
+    let Number::Is(n, next) = numbers::number_at(line, at, most) else {
+        return Whole::None;
+    };
+    if next < line.len() {
+        return Whole::None;
+    }
+    Whole::Is(n)
+}
+
+// A measure: a number with a minus sign if negative, within 32 signed bits. There is no -0.
+fn measure_at(line: &[u8], at: usize) -> ValueRead
+    requires { ⌜ at ≤ length (now line) ⌝ }
+    ensures { λ r. ⌜ ShownAt 77 (now (line .entry)) at r ⌝ }
+{
+    if !places::holds(line, at, b'-') {
+        let Whole::Is(n) = whole_at(line, at, 2147483647) else {
+            return ValueRead::None;
+        };
+        return ValueRead::Is(Value::Measure(n as u32));
+    }
+    let Whole::Is(n) = whole_at(line, at + 1, 2147483648) else {
+        return ValueRead::None;
+    };
+    if n == 0 {
+        return ValueRead::None;
+    }
+    ValueRead::Is(Value::Measure((4294967296 - n) as u32))
+}
+
+// Whether each byte from at on is printable.
+fn is_printable(line: &[u8], at: usize) -> bool
+    requires { ⌜ at ≤ length (now line) ⌝ }
+    ensures { λ r. ⌜ r ≡ all isPrintable (drop at (now (line .entry))) ⌝ }
+{
+    let mut i = at;
+    while i < line.len() {
+        if line[i] < 32 {
+            return false;
+        }
+        if 126 < line[i] {
+            return false;
+        }
+        i += 1;
+    }
+    true
+}
+
+// A text: printable bytes, of any number.
+fn text_at(line: &[u8], at: usize) -> ValueRead
+    requires { ⌜ at ≤ length (now line) ⌝ }
+    ensures { λ r. ⌜ ShownAt 84 (now (line .entry)) at r ⌝ }
+{
+    if !is_printable(line, at) {
+        return ValueRead::None;
+    }
+    ValueRead::Is(Value::Text(line.len() - at))
+}
+
+// A group: a minus sign alone.
+fn group_at(line: &[u8], at: usize) -> ValueRead
+    ensures { λ r. ⌜ ShownAt 71 (now (line .entry)) at r ⌝ }
+{
+    if !places::holds(line, at, b'-') {
+        return ValueRead::None;
+    }
+    if at + 1 < line.len() {
+        return ValueRead::None;
+    }
+    ValueRead::Is(Value::Group)
+}
+
+// The value at a line's end.
+pub fn value_at(line: &[u8], at: usize) -> ValueRead
+    requires { ⌜ at ≤ length (now line) ⌝ }
+    ensures { λ r. ⌜ ValueAt (now (line .entry)) at r ⌝ }
+{
+    if line.len() <= at {
+        return ValueRead::None;
+    }
+    if !places::holds(line, at + 1, b'\t') {
+        return ValueRead::None;
+    }
+    match line[at] {
+        b'G' => group_at(line, at + 2),
+        b'M' => measure_at(line, at + 2),
+        b'T' => text_at(line, at + 2),
+        _ => ValueRead::None,
+    }
+}
