@@ -1,0 +1,152 @@
+//! Times of the same work on two sides, interleaved.
+use crate::side::{Call, Side, product, reference};
+use reference::partition::PARTITION;
+use std::hint::black_box;
+use std::ops::Range;
+use std::time::Instant;
+
+/// How long a batch of calls takes at least, in nanoseconds.
+const BATCH: f64 = 200_000.0;
+
+/// How long one call takes on each side, in nanoseconds: the median of all rounds.
+#[derive(Clone, Copy)]
+pub struct Times {
+    pub product: f64,
+    pub reference: f64,
+}
+
+impl Times {
+    /// The product's time in terms of the Rust program's.
+    pub fn ratio(self) -> f64 {
+        self.product / self.reference
+    }
+}
+
+/// A call on a store that is the same before each call.
+pub struct Case {
+    pub call: Call,
+    pub store: Vec<u8>,
+}
+
+/// Cases of the same kind, carried out in turn, so that no processor learns one by heart; and what each answers.
+pub struct Work {
+    pub cases: Vec<Case>,
+    pub number: u32,
+}
+
+/// A case with its own store, which stays warm.
+struct Lent<'a> {
+    case: &'a Case,
+    store: Vec<u8>,
+    own: Range<usize>,
+}
+
+impl Lent<'_> {
+    /// Lends a copy of the case's store.
+    fn new(case: &Case) -> Lent<'_> {
+        let start = PARTITION * case.call.subject as usize;
+        let own = if start + PARTITION <= case.store.len() { start..start + PARTITION } else { 0..0 };
+        Lent { case, store: case.store.clone(), own }
+    }
+
+    /// Makes the call and lays back the subject's partition.
+    fn carry_out(&mut self, side: Side, output: &mut [u8]) -> u32 {
+        let output = &mut output[..self.case.call.output];
+        let answer = side(black_box(&self.case.call), black_box(&mut self.store), black_box(output));
+        self.store[self.own.clone()].copy_from_slice(&self.case.store[self.own.clone()]);
+        answer.number
+    }
+}
+
+/// A work that is being measured.
+struct Course<'a> {
+    lent: Vec<Lent<'a>>,
+    output: Vec<u8>,
+    times: usize,
+    product: Vec<f64>,
+    reference: Vec<f64>,
+}
+
+impl Course<'_> {
+    /// Prepares a work; each side must answer the expected number.
+    fn new(work: &Work) -> Course<'_> {
+        let lent: Vec<Lent> = work.cases.iter().map(Lent::new).collect();
+        let output = vec![0; work.cases.iter().map(|case| case.call.output).max().unwrap_or(0)];
+        let mut course = Course { lent, output, times: 1, product: Vec::new(), reference: Vec::new() };
+        for side in [product, reference] {
+            for one in &mut course.lent {
+                assert_eq!(one.carry_out(side, &mut course.output), work.number, "{:?}", one.case.call);
+            }
+        }
+        let once = course.batch(product).max(course.batch(reference)).max(1.0);
+        course.times = (BATCH / once / course.lent.len() as f64).ceil() as usize;
+        course
+    }
+
+    /// Carries the cases out once to warm the buffers, and then in turn as often as a batch needs: nanoseconds a call.
+    fn batch(&mut self, side: Side) -> f64 {
+        self.turn(side);
+        let start = Instant::now();
+        for _ in 0..self.times {
+            self.turn(side);
+        }
+        start.elapsed().as_nanos() as f64 / (self.times * self.lent.len()) as f64
+    }
+
+    /// Carries each case out once.
+    fn turn(&mut self, side: Side) {
+        for one in &mut self.lent {
+            black_box(one.carry_out(side, &mut self.output));
+        }
+    }
+
+    /// A batch of each side, the product's first or last.
+    fn round(&mut self, product_first: bool) {
+        for is_product in [product_first, !product_first] {
+            let time = self.batch(if is_product { product } else { reference });
+            if is_product { self.product.push(time) } else { self.reference.push(time) }
+        }
+    }
+}
+
+/// Times these works on both sides, all of them in each round.
+pub fn measure(works: &[Work], rounds: usize) -> Vec<Times> {
+    let mut courses: Vec<Course> = works.iter().map(Course::new).collect();
+    for round in 0..rounds {
+        courses.iter_mut().for_each(|course| course.round(round % 2 == 0));
+    }
+    let times = |course: Course| Times { product: median(course.product), reference: median(course.reference) };
+    courses.into_iter().map(times).collect()
+}
+
+/// The middle one of these times.
+pub fn median(mut times: Vec<f64>) -> f64 {
+    times.sort_by(f64::total_cmp);
+    times[times.len() / 2]
+}
+
+/// How long it takes to read each byte of a store once, eight at a time: the floor.
+pub fn floor(store: &[u8], rounds: usize) -> f64 {
+    let read = |store: &[u8]| {
+        store.as_chunks().0.iter().fold(0_u64, |sum, eight| sum.wrapping_add(u64::from_le_bytes(*eight)))
+    };
+    let time = || {
+        let start = Instant::now();
+        for _ in 0..100 {
+            black_box(read(black_box(store)));
+        }
+        start.elapsed().as_nanos() as f64 / 100.0
+    };
+    time();
+    median((0..rounds).map(|_| time()).collect())
+}
+
+#[cfg(test)]
+mod tests {
+    use super::median;
+
+    #[test]
+    fn the_median_is_the_middle_one() {
+        assert_eq!(median(vec![9.0, 1.0, 5.0]), 5.0);
+    }
+}

@@ -1,0 +1,212 @@
+//! The rows of the table.
+use crate::measure::{Case, Times, Work, measure, median};
+use crate::side::{Call, Name};
+use crate::stores;
+use reference::STORE;
+use reference::partition::partition;
+use reference::path::Path as ElementPath;
+use reference::random::Random;
+use std::fs::File;
+use std::io;
+use std::path::Path;
+use std::process::Command;
+use std::time::Instant;
+
+/// The bar for View and the well-formedness test.
+pub const HIGH_BAR: f64 = 1.0;
+/// The bar for every other row.
+const BAR: f64 = 1.2;
+/// The lowest and the highest label.
+const SUBJECTS: [u8; 2] = [0, 31];
+/// How many stores are measured in turn.
+const STORES: u64 = 16;
+/// An output that each measured listing fits.
+const SPACE: usize = 262_144;
+
+/// One row.
+pub struct Row {
+    pub name: String,
+    pub elements: usize,
+    pub times: Times,
+    pub bar: f64,
+}
+
+/// How a view and the well-formedness test grow with the store, for the highest label.
+pub struct Growth {
+    pub elements: usize,
+    pub view: Times,
+    pub test: Times,
+}
+
+/// A call without inputs but for its subject and its path.
+fn call(name: Name, subject: u8, path: Vec<u8>) -> Call {
+    Call { name, subject: subject.into(), path, kind: 2, value: b"SLEEVE".to_vec(), output: SPACE }
+}
+
+/// A row that is still to be measured.
+struct Open {
+    name: String,
+    elements: usize,
+    bar: f64,
+    work: Work,
+}
+
+/// Measures these rows together.
+fn measured(open: Vec<Open>, rounds: usize) -> Vec<Row> {
+    let (heads, works): (Vec<_>, Vec<_>) =
+        open.into_iter().map(|Open { name, elements, bar, work }| ((name, elements, bar), work)).unzip();
+    let times = measure(&works, rounds);
+    heads.into_iter().zip(times).map(|((name, elements, bar), times)| Row { name, elements, times, bar }).collect()
+}
+
+/// The random numbers of one of the stores with this many elements.
+fn random_of(seed: u64, elements: usize, which: u64) -> Random {
+    Random::part(Random::part(seed, elements as u64).bits(), which)
+}
+
+/// One work of all these, store by store.
+fn gather(cases: impl Iterator<Item = (Call, Vec<u8>)>, number: u32) -> Work {
+    Work { cases: cases.map(|(call, store)| Case { call, store }).collect(), number }
+}
+
+/// Each call by the lowest and the highest label on stores with this many elements.
+pub fn calls(seed: u64, elements: usize, rounds: usize) -> Vec<Row> {
+    let mut rows = Vec::new();
+    for subject in SUBJECTS {
+        let store = |which| stores::store(&mut random_of(seed, elements, which), elements, subject);
+        let stores: Vec<Vec<u8>> = (0..STORES).map(store).collect();
+        for (name, bar, number, case) in KINDS {
+            let cases = stores.iter().map(|store| case(store, subject));
+            rows.push(Open { name: format!("{name} by {subject}"), elements, bar, work: gather(cases, number) });
+        }
+    }
+    measured(rows, rounds)
+}
+
+/// Makes a case of a store and a subject.
+type MakeCase = fn(&[u8], u8) -> (Call, Vec<u8>);
+
+/// The kinds of cases: their names, bars, numbers and how they are made.
+const KINDS: [(&str, f64, u32, MakeCase); 5] = [
+    ("View of all", HIGH_BAR, 0, |store, subject| (call(Name::View, subject, Vec::new()), store.to_vec())),
+    ("Insert", BAR, 0, insert_case),
+    ("Update", BAR, 0, |store, subject| (call(Name::Update, subject, leaf(store, subject)), store.to_vec())),
+    ("Delete", BAR, 0, |store, subject| (call(Name::Delete, subject, leaf(store, subject)), store.to_vec())),
+    ("Well-formedness test (refusal 4)", HIGH_BAR, 4, test_case),
+];
+
+/// The insert of an element that the store holds: it is taken out before.
+fn insert_case(store: &[u8], subject: u8) -> (Call, Vec<u8>) {
+    let mut store = store.to_vec();
+    let held = leaf(&store, subject);
+    reference::delete(&mut store, subject.into(), &held);
+    (call(Name::Insert, subject, held), store)
+}
+
+/// A view whose path is one byte long.
+fn test_case(store: &[u8], subject: u8) -> (Call, Vec<u8>) {
+    (Call { output: 0, ..call(Name::View, subject, vec![1]) }, store.to_vec())
+}
+
+/// The path of an element of this label, near the middle of its partition, that none of the label extends.
+fn leaf(store: &[u8], label: u8) -> Vec<u8> {
+    let paths: Vec<ElementPath> = partition(store, label).slots().map(|slot| slot.path()).collect();
+    let is_leaf = |at: &usize| paths.get(at + 1).is_none_or(|next| !next.extends(&paths[*at]));
+    let at = (paths.len() / 2..paths.len()).find(is_leaf).expect("the last path is a leaf");
+    paths[at].bytes()
+}
+
+/// A refusal that is measured: its words, the elements of its stores, its number and how a case is made.
+type Refused = (&'static str, usize, u32, fn(&[u8]) -> (Call, Vec<u8>));
+
+/// The refusals, by the highest label.
+const REFUSED: [Refused; 11] = [
+    ("Insert: store of another length", 256, 1, |store| (new(Name::Insert, 31), store[1..].to_vec())),
+    ("Insert: subject over 31", 256, 2, |store| (Call { subject: 32, ..new(Name::Insert, 31) }, store.to_vec())),
+    ("Insert: corruption of the last partition's last byte", 256, 3, corrupted_case),
+    ("Insert: path not valid", 256, 4, |store| (new(Name::Insert, 32), store.to_vec())),
+    ("Insert: value not valid", 256, 5, |store| (Call { kind: 3, ..new(Name::Insert, 31) }, store.to_vec())),
+    ("Delete: another label", 256, 6, |store| (new(Name::Delete, 30), store.to_vec())),
+    ("Delete: not live", 256, 7, |store| (new(Name::Delete, 31), store.to_vec())),
+    ("View: not in view", 256, 7, |store| (new(Name::View, 31), store.to_vec())),
+    ("Insert: live already", 256, 8, |store| (call(Name::Insert, 31, leaf(store, 31)), store.to_vec())),
+    ("Insert: partition full", 1024, 9, |store| (new(Name::Insert, 31), store.to_vec())),
+    ("View: output too short", 256, 10, |store| (Call { output: 100, ..call(Name::View, 31, vec![]) }, store.to_vec())),
+];
+
+/// A call by the highest label on a path that is not in the store and ends in this label.
+fn new(name: Name, label: u8) -> Call {
+    call(name, 31, vec![255, 255, label])
+}
+
+/// An insert into a store whose last byte is not zero.
+fn corrupted_case(store: &[u8]) -> (Call, Vec<u8>) {
+    let mut store = store.to_vec();
+    store[STORE - 1] = 1;
+    (new(Name::Insert, 31), store)
+}
+
+/// Each refusal.
+pub fn refusals(seed: u64, rounds: usize) -> Vec<Row> {
+    let refusal = |(name, elements, number, case): Refused| {
+        let cases = (0..STORES).map(|which| case(&stores::store(&mut random_of(seed, elements, which), elements, 31)));
+        Open { name: format!("Refusal {number}, {name}"), elements, bar: BAR, work: gather(cases, number) }
+    };
+    measured(REFUSED.into_iter().map(refusal).collect(), rounds)
+}
+
+/// The growth of a view and of the well-formedness test over these numbers of elements, all of which are listed.
+pub fn growth(seed: u64, sizes: &[usize], rounds: usize) -> Vec<Growth> {
+    let works: Vec<Work> = sizes.iter().flat_map(|elements| growth_works(seed, *elements)).collect();
+    let times = measure(&works, rounds);
+    let pairs = times.as_chunks::<2>().0;
+    sizes
+        .iter()
+        .zip(pairs)
+        .map(|(elements, [view, test])| Growth { elements: *elements, view: *view, test: *test })
+        .collect()
+}
+
+/// A view of all and a well-formedness test by the highest label, on stores with this many elements.
+fn growth_works(seed: u64, elements: usize) -> [Work; 2] {
+    let store = |which| stores::store(&mut random_of(seed, elements, which), elements, 31);
+    let view = gather((0..STORES).map(|which| (call(Name::View, 31, Vec::new()), store(which))), 0);
+    let test = gather((0..STORES).map(|which| test_case(&store(which), 31)), 4);
+    [view, test]
+}
+
+/// Both runners on a script, each from a file into a file: nanoseconds for the whole run.
+pub fn runner(seed: u64, lines: usize, rounds: usize, root: &Path, scratch: &Path) -> io::Result<Row> {
+    let input = scratch.join("script");
+    std::fs::write(&input, stores::script(&mut Random::part(seed, 0), lines))?;
+    let programs = [root.join("target/bin/runner"), root.join("hosts/compare/target/release/reference_runner")];
+    let outputs = [scratch.join("product.out"), scratch.join("reference.out")];
+    let mut times = [Vec::new(), Vec::new()];
+    for round in 0..=rounds {
+        for ((program, output), times) in programs.iter().zip(&outputs).zip(&mut times) {
+            let time = run(program, &input, output)?;
+            if round > 0 {
+                times.push(time);
+            }
+        }
+    }
+    let [ours, theirs] = outputs.map(std::fs::read);
+    assert!(ours? == theirs?, "the runners print the same");
+    let [product, reference] = times.map(median);
+    let name = format!("Runner, a script of {lines} lines");
+    Ok(Row { name, elements: 200, times: Times { product, reference }, bar: BAR })
+}
+
+/// Runs one program from a file into a file: nanoseconds.
+fn run(program: &Path, input: &Path, output: &Path) -> io::Result<f64> {
+    let mut command = Command::new(program);
+    command.stdin(File::open(input)?).stdout(File::create(output)?);
+    let start = Instant::now();
+    let status = command.status()?;
+    let time = start.elapsed().as_nanos() as f64;
+    if status.success() {
+        Ok(time)
+    } else {
+        Err(io::Error::other(format!("{} ended with {status}", program.display())))
+    }
+}

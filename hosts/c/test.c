@@ -1,0 +1,304 @@
+/* Tests the C declarations: answers, listings, and what a refusal leaves untouched. The last line is 'N passed, N failed'. */
+#include "dossier.h"
+
+#include <stdio.h>
+#include <string.h>
+
+/* A path or a value lent to a call, with its length. */
+#define LENT(bytes) bytes, sizeof bytes
+
+/* What every output holds before a call. */
+enum { FILL = 0xa5 };
+
+/* The store, with one byte behind it so that a longer one can be lent; a copy of it; an output. */
+static uint8_t store[DOSSIER_STORE_BYTES + 1];
+static uint8_t kept[DOSSIER_STORE_BYTES + 1];
+static uint8_t output[256];
+
+/* How many checks held and how many did not. */
+static int passed, failed;
+
+/* Paths: the root, 10:0, below it 20:16 and 30:0, 40:0 below 30:0, and 10:16. */
+static const uint8_t none[1];
+static const uint8_t p10[] = {10, 0, 0};
+static const uint8_t p10_20[] = {10, 0, 0, 20, 0, 16};
+static const uint8_t p10_30[] = {10, 0, 0, 30, 0, 0};
+static const uint8_t p10_30_40[] = {10, 0, 0, 30, 0, 0, 40, 0, 0};
+static const uint8_t p10_16[] = {10, 0, 16};
+
+/* -150 as a measure. */
+static const uint8_t measure[] = {0x6a, 0xff, 0xff, 0xff};
+
+/* The last listing of document 01's example. */
+static const char listing[] = "VIEW\t16\t2\n1\t10\t0\tR\t-\t-\n2\t20\t16\tP\tM\t-150\n";
+
+/* Counts one check, and names it if it does not hold. */
+static void check(const char *name, int holds)
+{
+    if (holds) {
+        passed++;
+    } else {
+        failed++;
+        printf("failed: %s\n", name);
+    }
+}
+
+/* Whether an output holds FILL from a byte on. */
+static int is_untouched_from(size_t start)
+{
+    for (size_t at = start; at < sizeof output; at++) {
+        if (output[at] != FILL) {
+            return 0;
+        }
+    }
+    return 1;
+}
+
+/* An empty store and an output full of FILL. */
+static void start(void)
+{
+    memset(store, 0, sizeof store);
+    memset(output, FILL, sizeof output);
+}
+
+/* Keeps a copy of the store, for the refusals that follow. */
+static void keep(void)
+{
+    memcpy(kept, store, sizeof store);
+}
+
+/* A call is done with a count. */
+static void done(const char *name, struct dossier_answer answer, uint64_t count)
+{
+    check(name, answer.number == DOSSIER_DONE && answer.count == count);
+}
+
+/* A call is refused by a number, with count 0, and leaves the store that was kept and the output. */
+static void refused(const char *name, struct dossier_answer answer, uint32_t number)
+{
+    check(name, answer.number == number && answer.count == 0 && memcmp(store, kept, sizeof store) == 0 && is_untouched_from(0));
+}
+
+/* The calls on a store of the right length. */
+static struct dossier_answer view(uint32_t subject, const uint8_t *path, size_t length, size_t room)
+{
+    return dossier_view(store, DOSSIER_STORE_BYTES, subject, path, length, output, room);
+}
+
+static struct dossier_answer insert(uint32_t subject, const uint8_t *path, size_t length, uint32_t kind, const uint8_t *value,
+                                    size_t value_length)
+{
+    return dossier_insert(store, DOSSIER_STORE_BYTES, subject, path, length, kind, value, value_length);
+}
+
+static struct dossier_answer update(uint32_t subject, const uint8_t *path, size_t length, uint32_t kind, const uint8_t *value,
+                                    size_t value_length)
+{
+    return dossier_update(store, DOSSIER_STORE_BYTES, subject, path, length, kind, value, value_length);
+}
+
+static struct dossier_answer delete(uint32_t subject, const uint8_t *path, size_t length)
+{
+    return dossier_delete(store, DOSSIER_STORE_BYTES, subject, path, length);
+}
+
+/* Inserts a group. */
+static struct dossier_answer insert_group(uint32_t subject, const uint8_t *path, size_t length)
+{
+    return insert(subject, path, length, DOSSIER_KIND_GROUP, none, 0);
+}
+
+/* The answer lies in memory as the library returns it. */
+static void test_answer(void)
+{
+    check("the answer has 16 bytes", sizeof(struct dossier_answer) == 16);
+    check("the count is at byte 8", offsetof(struct dossier_answer, count) == 8);
+}
+
+/* The calls of document 01's example that change the store. */
+static void make_example(void)
+{
+    start();
+    done("insert 10:0 by 0", insert_group(0, LENT(p10)), 0);
+    done("insert 10:0/20:16 by 16", insert(16, LENT(p10_20), DOSSIER_KIND_MEASURE, LENT(measure)), 0);
+    done("delete 10:0 by 0", delete(0, LENT(p10)), 1);
+}
+
+/* Document 01's example: 40 bytes hold its last listing, 39 do not. */
+static void test_example(void)
+{
+    make_example();
+    keep();
+    done("0 sees nothing", view(0, none, 0, sizeof output), 9);
+    check("the listing for 0", memcmp(output, "VIEW\t0\t0\n", 9) == 0 && is_untouched_from(9));
+    memset(output, FILL, sizeof output);
+    refused("39 bytes are too short", view(16, none, 0, 39), DOSSIER_REFUSED_OUTPUT_SHORT);
+    done("40 bytes suffice", view(16, none, 0, 40), 40);
+    check("the listing for 16", memcmp(output, listing, 40) == 0 && is_untouched_from(40));
+    check("a view leaves the store", memcmp(store, kept, sizeof store) == 0);
+}
+
+/* The removed element inserted again as a text. */
+static void test_again(void)
+{
+    static const char seen[] = "VIEW\t16\t2\n1\t10\t0\tP\tT\tSLEEVE\n2\t20\t16\tP\tM\t-150\n";
+    make_example();
+    done("insert 10:0 again", insert(0, LENT(p10), DOSSIER_KIND_TEXT, (const uint8_t *)"SLEEVE", 6), 0);
+    done("16 sees both", view(16, LENT(p10), sizeof output), sizeof seen - 1);
+    check("their listing", memcmp(output, seen, sizeof seen - 1) == 0 && is_untouched_from(sizeof seen - 1));
+}
+
+/* What an update and a delete count. */
+static void test_counts(void)
+{
+    start();
+    done("insert 10:0", insert_group(0, LENT(p10)), 0);
+    done("insert 10:0/30:0", insert_group(0, LENT(p10_30)), 0);
+    done("insert 10:0/30:0/40:0", insert_group(0, LENT(p10_30_40)), 0);
+    done("an update takes two", update(0, LENT(p10_30), DOSSIER_KIND_MEASURE, LENT(measure)), 2);
+    done("a delete takes two", delete(0, LENT(p10)), 2);
+    keep();
+    memset(store, 0, sizeof store);
+    check("the store is empty again", memcmp(store, kept, sizeof store) == 0);
+}
+
+/* 1: a store of another length, whatever else is wrong. */
+static void test_store_length(void)
+{
+    static const size_t lengths[] = {0, 1, DOSSIER_STORE_BYTES - 1, DOSSIER_STORE_BYTES + 1};
+    start();
+    keep();
+    for (size_t at = 0; at < sizeof lengths / sizeof *lengths; at++) {
+        size_t length = lengths[at];
+        refused("view: length", dossier_view(store, length, 40, LENT(p10), output, sizeof output), 1);
+        refused("insert: length", dossier_insert(store, length, 0, LENT(p10), 0, none, 0), 1);
+        refused("update: length", dossier_update(store, length, 0, LENT(p10), 0, none, 0), 1);
+        refused("delete: length", dossier_delete(store, length, 0, LENT(p10)), 1);
+    }
+}
+
+/* 2: a subject over 31, on all its bits. 287, 256 and 4294967264 would be labels in eight or five bits. */
+static void test_subject(void)
+{
+    static const uint32_t subjects[] = {32, 256, 287, 4294967264u, 4294967295u};
+    make_example();
+    keep();
+    for (size_t at = 0; at < sizeof subjects / sizeof *subjects; at++) {
+        refused("view: subject", view(subjects[at], none, 0, sizeof output), 2);
+        refused("insert: subject", insert_group(subjects[at], LENT(p10)), 2);
+        refused("update: subject", update(subjects[at], LENT(p10), 0, none, 0), 2);
+        refused("delete: subject", delete(subjects[at], LENT(p10)), 2);
+    }
+}
+
+/* 3: a partition that is not well formed stops those who dominate it, and nobody else. */
+static void test_not_well_formed(void)
+{
+    start();
+    store[16 * DOSSIER_PARTITION_BYTES] = 33;
+    keep();
+    refused("view: partition 16", view(16, none, 0, sizeof output), 3);
+    refused("insert: partition 16", insert_group(31, LENT(p10)), 3);
+    refused("update: partition 16", update(24, LENT(p10), 0, none, 0), 3);
+    refused("delete: partition 16", delete(17, LENT(p10)), 3);
+    done("15 does not dominate it", view(15, none, 0, sizeof output), 10);
+}
+
+/* 4: what is no path. */
+static void test_path(void)
+{
+    static const uint8_t name_0[] = {0, 0, 0};
+    static const uint8_t label_32[] = {10, 0, 32};
+    static const uint8_t falling[] = {10, 0, 16, 20, 0, 9};
+    static const uint8_t seven[21] = {1, 0, 0, 1, 0, 0, 1, 0, 0, 1, 0, 0, 1, 0, 0, 1, 0, 0, 1, 0, 0};
+    start();
+    keep();
+    refused("name 0", view(0, LENT(name_0), sizeof output), 4);
+    refused("label 32", insert_group(0, LENT(label_32)), 4);
+    refused("labels not rising", insert_group(9, LENT(falling)), 4);
+    refused("two bytes", delete(0, p10, 2), 4);
+    refused("seven steps", update(0, LENT(seven), 0, none, 0), 4);
+    refused("no step", insert_group(0, none, 0), 4);
+}
+
+/* 5: what is no value. A kind counts on all its bits: 256, 257 and 258 would be kinds in eight. */
+static void test_value(void)
+{
+    static const uint8_t text[] = "SEVENTEEN LETTERS";
+    static const uint32_t kinds[] = {3, 256, 258, 4294967295u};
+    start();
+    done("insert 10:0", insert_group(0, LENT(p10)), 0);
+    keep();
+    for (size_t at = 0; at < sizeof kinds / sizeof *kinds; at++) {
+        refused("insert: kind", insert(0, LENT(p10_30), kinds[at], text, 1), 5);
+        refused("update: kind", update(0, LENT(p10), kinds[at], text, 1), 5);
+    }
+    refused("kind 256 without bytes", insert(0, LENT(p10_30), 256, none, 0), 5);
+    refused("kind 257 with a measure", insert(0, LENT(p10_30), 257, LENT(measure)), 5);
+    refused("a text of no byte", insert(0, LENT(p10_30), DOSSIER_KIND_TEXT, none, 0), 5);
+    refused("a text of 17 bytes", insert(0, LENT(p10_30), DOSSIER_KIND_TEXT, text, 17), 5);
+    done("a text of 16 bytes", insert(0, LENT(p10_30), DOSSIER_KIND_TEXT, text, 16), 0);
+}
+
+/* 6, 7 and 8: another's label, what is not there, what is there already. */
+static void test_place(void)
+{
+    start();
+    keep();
+    refused("7, view", view(0, LENT(p10), sizeof output), 7);
+    refused("7, insert", insert_group(0, LENT(p10_30)), 7);
+    refused("7, update", update(0, LENT(p10), 0, none, 0), 7);
+    refused("7, delete", delete(0, LENT(p10)), 7);
+    done("insert 10:0", insert_group(0, LENT(p10)), 0);
+    done("insert 10:16 beside it", insert_group(16, LENT(p10_16)), 0);
+    keep();
+    refused("6, insert", insert_group(16, LENT(p10)), 6);
+    refused("6, update", update(16, LENT(p10), 0, none, 0), 6);
+    refused("6, delete", delete(16, LENT(p10)), 6);
+    refused("7, a version above", view(0, LENT(p10_16), sizeof output), 7);
+    refused("8", insert_group(0, LENT(p10)), 8);
+}
+
+/* 9: a full partition. Another label's insert is done, and after a delete one more of the first label's. */
+static void test_full(void)
+{
+    uint8_t path[] = {0, 0, 0};
+    start();
+    for (path[0] = 1; path[0] <= 32; path[0]++) {
+        done("one of 32", insert_group(0, LENT(path)), 0);
+    }
+    keep();
+    refused("the 33rd", insert_group(0, LENT(path)), 9);
+    done("another label's", insert_group(16, LENT(p10_16)), 0);
+    done("a delete", delete(0, LENT(p10)), 1);
+    done("the 33rd again", insert_group(0, LENT(path)), 0);
+}
+
+/* The smallest measure prints so. */
+static void test_measure(void)
+{
+    static const uint8_t smallest[] = {0, 0, 0, 0x80};
+    static const char seen[] = "VIEW\t0\t1\n1\t10\t0\tP\tM\t-2147483648\n";
+    start();
+    done("insert the smallest measure", insert(0, LENT(p10), DOSSIER_KIND_MEASURE, LENT(smallest)), 0);
+    done("view it", view(0, none, 0, sizeof output), sizeof seen - 1);
+    check("its listing", memcmp(output, seen, sizeof seen - 1) == 0 && is_untouched_from(sizeof seen - 1));
+}
+
+int main(void)
+{
+    test_answer();
+    test_example();
+    test_again();
+    test_counts();
+    test_store_length();
+    test_subject();
+    test_not_well_formed();
+    test_path();
+    test_value();
+    test_place();
+    test_full();
+    test_measure();
+    printf("%d passed, %d failed\n", passed, failed);
+    return failed == 0 ? 0 : 1;
+}

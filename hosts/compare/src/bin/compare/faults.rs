@@ -1,0 +1,142 @@
+//! The product with one fault each: the comparison has to find every one of them.
+use crate::side::{Call, Name, Side, product};
+use reference::label::LABELS;
+use reference::partition::{HEAD, PARTITION, SLOT, SLOTS, partition};
+use reference::value::Value;
+use reference::{Answer, STORE};
+
+/// Each fault and what it does.
+pub const FAULTS: [(&str, Side); 12] = [
+    ("a refused view writes the output's first byte", writes_when_refused),
+    ("a view writes the byte behind its listing", writes_behind),
+    ("a refused call writes the store's last byte", writes_store_when_refused),
+    ("a delete counts at most two", counts_two),
+    ("all 32 partitions are tested", tests_all),
+    ("the dominated partitions' free bytes are not tested", spares_free_bytes),
+    ("an update is two public calls", two_calls),
+    ("the subject is cut to a byte", cuts_subject),
+    ("the kind is cut to a byte", cuts_kind),
+    ("a partition is full with 31", full_early),
+    ("the value is tested before the path", value_first),
+    ("a live version of the name with a higher label stops an insert", tells_of_higher),
+];
+
+/// The answer of a refusal.
+fn refused(number: u32) -> Answer {
+    Answer { number, count: 0 }
+}
+
+/// The number the product would answer, without doing the call.
+fn foreseen(call: &Call, store: &[u8]) -> u32 {
+    let (mut store, mut output) = (store.to_vec(), vec![0; call.output]);
+    product(call, &mut store, &mut output).number
+}
+
+/// Changes the first byte of an output that is too short.
+fn writes_when_refused(call: &Call, store: &mut [u8], output: &mut [u8]) -> Answer {
+    let answer = product(call, store, output);
+    if let (true, Some(byte)) = (answer.number == 10, output.first_mut()) {
+        *byte ^= 1;
+    }
+    answer
+}
+
+/// Changes the byte behind a listing.
+fn writes_behind(call: &Call, store: &mut [u8], output: &mut [u8]) -> Answer {
+    let answer = product(call, store, output);
+    if let (Name::View, Some(byte)) = (call.name, output.get_mut(answer.count as usize)) {
+        *byte ^= u8::from(answer.number == 0);
+    }
+    answer
+}
+
+/// Changes the store's last byte where the partition is full.
+fn writes_store_when_refused(call: &Call, store: &mut [u8], output: &mut [u8]) -> Answer {
+    let answer = product(call, store, output);
+    if let (9, Some(byte)) = (answer.number, store.last_mut()) {
+        *byte ^= 1;
+    }
+    answer
+}
+
+/// Counts no more than two deleted elements.
+fn counts_two(call: &Call, store: &mut [u8], output: &mut [u8]) -> Answer {
+    let answer = product(call, store, output);
+    let count = if call.name == Name::Delete { answer.count.min(2) } else { answer.count };
+    Answer { count, ..answer }
+}
+
+/// Answers 3 for partitions that the subject does not dominate too.
+fn tests_all(call: &Call, store: &mut [u8], output: &mut [u8]) -> Answer {
+    let tested = store.len() == STORE && call.subject < u32::from(LABELS);
+    if tested && !(0..LABELS).all(|label| partition(store, label).is_well_formed()) {
+        return refused(3);
+    }
+    product(call, store, output)
+}
+
+/// Clears the free slots before the call, so that no test finds anything there.
+fn spares_free_bytes(call: &Call, store: &mut [u8], output: &mut [u8]) -> Answer {
+    let saved = store.to_vec();
+    if store.len() == STORE {
+        for part in store.as_chunks_mut::<PARTITION>().0 {
+            let free = HEAD + SLOT * usize::from(part[0]).min(SLOTS);
+            part[free..].fill(0);
+        }
+    }
+    let answer = product(call, store, output);
+    if answer.number != 0 {
+        store.copy_from_slice(&saved);
+    }
+    answer
+}
+
+/// Deletes and inserts where an update is asked for.
+fn two_calls(call: &Call, store: &mut [u8], output: &mut [u8]) -> Answer {
+    if call.name != Name::Update || foreseen(call, store) != 0 {
+        return product(call, store, output);
+    }
+    let taken = product(&Call { name: Name::Delete, ..call.clone() }, store, output);
+    let put = product(&Call { name: Name::Insert, ..call.clone() }, store, output);
+    if put.number == 0 { taken } else { put }
+}
+
+/// Takes the subject's lowest byte alone.
+fn cuts_subject(call: &Call, store: &mut [u8], output: &mut [u8]) -> Answer {
+    product(&Call { subject: call.subject & 255, ..call.clone() }, store, output)
+}
+
+/// Takes the kind's lowest byte alone.
+fn cuts_kind(call: &Call, store: &mut [u8], output: &mut [u8]) -> Answer {
+    product(&Call { kind: call.kind & 255, ..call.clone() }, store, output)
+}
+
+/// Refuses the 32nd insert of a label.
+fn full_early(call: &Call, store: &mut [u8], output: &mut [u8]) -> Answer {
+    let done = call.name == Name::Insert && foreseen(call, store) == 0;
+    if done && partition(store, call.subject as u8).count() == 31 {
+        return refused(9);
+    }
+    product(call, store, output)
+}
+
+/// Answers 5 where both the path and the value are not valid.
+fn value_first(call: &Call, store: &mut [u8], output: &mut [u8]) -> Answer {
+    let valued = matches!(call.name, Name::Insert | Name::Update);
+    if valued && foreseen(call, store) == 4 && Value::read(call.kind, &call.value).is_none() {
+        return refused(5);
+    }
+    product(call, store, output)
+}
+
+/// Refuses an insert because a higher partition has the same names.
+fn tells_of_higher(call: &Call, store: &mut [u8], output: &mut [u8]) -> Answer {
+    let done = call.name == Name::Insert && foreseen(call, store) == 0;
+    let names = |path: &[u8]| path.chunks(3).map(|step| [step[0], step[1]]).collect::<Vec<_>>();
+    let mut higher = (0..LABELS).filter(|label| done && u32::from(*label) > call.subject);
+    if higher.any(|label| partition(store, label).slots().any(|slot| names(&slot.path().bytes()) == names(&call.path)))
+    {
+        return refused(8);
+    }
+    product(call, store, output)
+}

@@ -1,0 +1,166 @@
+//! Random calls: most go by what the store holds, some are invalid in one or more ways.
+use crate::side::{Call, Name};
+use crate::stores::{name, valid_path, valid_value};
+use reference::STORE;
+use reference::label::{LABELS, dominates};
+use reference::partition::partition;
+use reference::path::{DEPTH, Path, Step};
+use reference::random::Random;
+
+/// An output that every listing fits: 6,144 lines and the first.
+pub const ROOMY: usize = 262_144;
+
+/// A subject and a path for him.
+type Aim = (u32, Vec<u8>);
+
+/// A random call for this store; where there is a label to prefer, inserts often take it.
+pub fn call(random: &mut Random, store: &[u8], preferred: Option<u8>) -> Call {
+    let name =
+        random.pick(&[Name::View, Name::View, Name::Insert, Name::Insert, Name::Insert, Name::Update, Name::Delete]);
+    let (subject, path) = match name {
+        Name::View => view_aim(random, store),
+        Name::Insert => insert_aim(random, store, preferred),
+        Name::Update | Name::Delete => write_aim(random, store),
+    };
+    let (kind, value) = valid_value(random);
+    let mut call =
+        Call { name, subject, path, kind, value, output: random.pick(&[16_384, 16_384, 16_384, 65_536, ROOMY]) };
+    while random.percent(20) {
+        spoil(random, &mut call);
+    }
+    call
+}
+
+/// A delete by this label, or by the highest, of a path that no store of these tests holds.
+pub fn idle_delete(random: &mut Random, label: u8) -> Call {
+    let subject = random.pick(&[label, label, label, 31]);
+    let path = Path::new(&[Step { name: 60_000, label: subject }; DEPTH]).bytes();
+    Call { name: Name::Delete, subject: subject.into(), path, kind: 0, value: Vec::new(), output: 0 }
+}
+
+/// A label that dominates this one.
+fn label_above(random: &mut Random, low: u8) -> u8 {
+    let above: Vec<u8> = (0..LABELS).filter(|label| dominates(*label, low)).collect();
+    random.pick(&above)
+}
+
+/// The path of some slot that a partition counts, if one is found.
+fn held_path(random: &mut Random, store: &[u8]) -> Option<Path> {
+    if store.len() != STORE {
+        return None;
+    }
+    let parts = (0..8).map(|_| partition(store, random.below(LABELS.into()) as u8));
+    let part = parts.max_by_key(|part| part.count() > 0)?;
+    let at = random.below(part.count().max(1));
+    part.slots().nth(at).map(|slot| slot.path())
+}
+
+/// A beginning of a held path, which may be the whole and, if allowed, the root; else a random path.
+fn beginning(random: &mut Random, store: &[u8], shortest: usize) -> Path {
+    let last = random.below(LABELS.into()) as u8;
+    let path = held_path(random, store).unwrap_or_else(|| valid_path(random, last));
+    let depth = if random.percent(50) { path.depth() } else { shortest + random.below(path.depth() + 1) };
+    Path::new(&path.steps()[..depth.clamp(shortest.min(path.depth()), path.depth())])
+}
+
+/// A label near a path's end, or 0.
+fn end_label(path: &Path) -> u8 {
+    path.label().unwrap_or(0) % LABELS
+}
+
+/// The root, or something held below it, for a subject who dominates it mostly.
+fn view_aim(random: &mut Random, store: &[u8]) -> Aim {
+    let path = if random.percent(35) { Path::default() } else { beginning(random, store, 0) };
+    let subject = if random.percent(80) { label_above(random, end_label(&path)) } else { random.below(32) as u8 };
+    (subject.into(), path.bytes())
+}
+
+/// A new child of something held, or something held that may be removed, or any path.
+fn insert_aim(random: &mut Random, store: &[u8], preferred: Option<u8>) -> Aim {
+    match random.below(10) {
+        0..7 => child_aim(random, store, preferred),
+        7 | 8 => own_aim(&beginning(random, store, 1)),
+        _ => {
+            let label = preferred.unwrap_or_else(|| random.below(32) as u8);
+            own_aim(&valid_path(random, label))
+        }
+    }
+}
+
+/// A new child of something held. Now and then it is too deep.
+fn child_aim(random: &mut Random, store: &[u8], preferred: Option<u8>) -> Aim {
+    let parent = beginning(random, store, 0);
+    let above = label_above(random, end_label(&parent));
+    let subject = preferred.filter(|label| dominates(*label, end_label(&parent))).unwrap_or(above);
+    let step = Path::new(&[Step { name: name(random), label: subject }]);
+    (subject.into(), [parent.bytes(), step.bytes()].concat())
+}
+
+/// This path, for the subject of its label.
+fn own_aim(path: &Path) -> Aim {
+    (end_label(path).into(), path.bytes())
+}
+
+/// Something held, for the subject of its label mostly.
+fn write_aim(random: &mut Random, store: &[u8]) -> Aim {
+    let path = beginning(random, store, 1);
+    let (own, bytes) = own_aim(&path);
+    (if random.percent(90) { own } else { random.below(32) as u32 }, bytes)
+}
+
+/// Makes one input of a call another, mostly an invalid one.
+fn spoil(random: &mut Random, call: &mut Call) {
+    match random.below(8) {
+        0 => call.subject = odd_subject(random),
+        1 => call.subject = random.below(32) as u32,
+        2..5 => spoil_path(random, &mut call.path),
+        5 => call.kind = random.pick(&[0, 1, 2, 3, 255, 256, 257, 258, 65_536, u32::MAX]),
+        6 => call.value = odd_value(random),
+        _ => call.output = random.pick(&[0, 1, 8, 9, 10, 40, 100, 1000]),
+    }
+}
+
+/// A subject that is no label, some of which are one in their lowest byte.
+fn odd_subject(random: &mut Random) -> u32 {
+    let low = random.below(32) as u32;
+    random.pick(&[32, 33, 40, 63, 255, 256 + low, 65_536 + low, 0x8000_0000 + low, u32::MAX])
+}
+
+/// Value bytes: short, long, and with bytes that no text holds.
+fn odd_value(random: &mut Random) -> Vec<u8> {
+    let length = random.pick(&[0, 1, 3, 4, 5, 15, 16, 17, 32, 255, 256, 272, 5000]);
+    let mut value = vec![b'A'; length];
+    if let (true, true) = (random.percent(60), length > 0) {
+        value[random.below(length)] = random.pick(&[0, 9, 10, 31, 32, 126, 127, 128, 255]);
+    }
+    value
+}
+
+/// Changes a path's bytes or their number.
+fn spoil_path(random: &mut Random, path: &mut Vec<u8>) {
+    match random.below(8) {
+        0 => path.truncate(random.below(path.len() + 1)),
+        1 => path.extend(random.bytes(1)),
+        2 => path.clear(),
+        3 => path.extend([1, 0, 31].repeat(random.pick(&[1, 2, 6, 100, 1000]))),
+        4 => set_in_step(random, path, &[0], |_| 0),
+        5 => set_in_step(random, path, &[2], Random::byte),
+        6 => set_in_step(random, path, &[2], |random| random.pick(&[0, 7, 31, 32, 255])),
+        _ => set_in_step(random, path, &[0, 1], |random| random.byte() % 3),
+    }
+}
+
+/// Sets bytes of one step; a name whose first byte becomes 0 gets 0 for its second too.
+fn set_in_step(random: &mut Random, path: &mut [u8], places: &[usize], byte: impl Fn(&mut Random) -> u8) {
+    let steps = path.len() / 3;
+    if steps == 0 {
+        return;
+    }
+    let start = 3 * random.below(steps);
+    for place in places {
+        path[start + place] = byte(random);
+    }
+    if places == [0] {
+        path[start + 1] = 0;
+    }
+}

@@ -1,0 +1,278 @@
+//! Drives the product and the Rust program through random calls and compares what each answers, writes and leaves.
+mod faults;
+mod generate;
+mod lent;
+mod side;
+mod stores;
+
+use lent::Lent;
+use reference::partition::{PARTITION, SLOTS};
+use reference::random::Random;
+use reference::{Answer, STORE};
+use side::{Call, Name, Side};
+use std::process::ExitCode;
+
+/// How many calls of each name were answered with each number.
+type Tally = [[u64; 11]; 4];
+
+/// The numbers that each call can answer, in the order of `Name`.
+const NUMBERS: [(Name, &[usize]); 4] = [
+    (Name::View, &[0, 1, 2, 3, 4, 7, 10]),
+    (Name::Insert, &[0, 1, 2, 3, 4, 5, 6, 7, 8, 9]),
+    (Name::Update, &[0, 1, 2, 3, 4, 5, 6, 7]),
+    (Name::Delete, &[0, 1, 2, 3, 4, 6, 7]),
+];
+
+/// What the command line asks for.
+struct Plan {
+    seed: u64,
+    calls: u64,
+    sweeps: u64,
+    episode: Option<u64>,
+    faults: bool,
+}
+
+/// A difference between the two.
+struct Difference {
+    again: String,
+    call: Call,
+    what: String,
+}
+
+/// What was compared so far.
+#[derive(Default)]
+struct Course {
+    calls: u64,
+    episodes: u64,
+    corruptions: u64,
+    tally: Tally,
+}
+
+/// The two stores of an episode.
+struct Stores {
+    product: Lent,
+    reference: Vec<u8>,
+}
+
+fn main() -> ExitCode {
+    let Some(plan) = read_arguments() else {
+        eprintln!("compare [--seed N] [--calls N] [--sweeps N] [--episode N] [--faults]");
+        return ExitCode::from(2);
+    };
+    println!("seed {}", plan.seed);
+    let found = if plan.faults { find_faults(&plan) } else { compare(&plan) };
+    if found { ExitCode::SUCCESS } else { ExitCode::FAILURE }
+}
+
+/// Reads the command line. Without a seed the clock gives one.
+fn read_arguments() -> Option<Plan> {
+    let clock = std::time::UNIX_EPOCH.elapsed().map_or(1, |since| since.as_nanos() as u64);
+    let mut plan = Plan { seed: clock, calls: 1_200_000, sweeps: 3, episode: None, faults: false };
+    let mut arguments = std::env::args().skip(1);
+    while let Some(argument) = arguments.next() {
+        let mut number = || arguments.next()?.parse().ok();
+        match argument.as_str() {
+            "--seed" => plan.seed = number()?,
+            "--calls" => plan.calls = number()?,
+            "--sweeps" => plan.sweeps = number()?,
+            "--episode" => plan.episode = Some(number()?),
+            "--faults" => plan.faults = true,
+            _ => return None,
+        }
+    }
+    Some(plan)
+}
+
+/// Compares the product with the Rust program: whether they agree and every answer was met.
+fn compare(plan: &Plan) -> bool {
+    let mut course = Course::default();
+    let result = match plan.episode {
+        Some(episode) => course.episode(plan.seed, episode, side::product),
+        None => course.sweep_and_run(plan),
+    };
+    if let Err(difference) = result {
+        print_difference(plan.seed, &difference);
+        return false;
+    }
+    println!(
+        "{} calls in {} episodes, {} corruptions, no difference",
+        course.calls, course.episodes, course.corruptions
+    );
+    print_tally(&course.tally);
+    plan.episode.is_some() || plan.calls == 0 || is_complete(&course.tally)
+}
+
+/// Compares the product with each fault: whether every fault is found.
+fn find_faults(plan: &Plan) -> bool {
+    let mut all = true;
+    for (name, side) in faults::FAULTS {
+        let mut course = Course::default();
+        let found = course.run(plan.seed, plan.calls, side).is_err();
+        println!("{}: {name} ({} calls)", if found { "found" } else { "NOT FOUND" }, course.calls);
+        all &= found;
+    }
+    all
+}
+
+/// Prints a difference and how to see it again.
+fn print_difference(seed: u64, difference: &Difference) {
+    println!("DIFFERENCE: {}", difference.what);
+    println!("{:?}", difference.call);
+    println!("again: compare --seed {seed} {}", difference.again);
+}
+
+/// Prints how often each number was answered.
+fn print_tally(tally: &Tally) {
+    for ((name, _), row) in NUMBERS.iter().zip(tally) {
+        let counts = (0..).zip(row).map(|(number, count): (u32, _)| format!("{number}: {count}"));
+        println!("{name:?}  {}", counts.collect::<Vec<_>>().join("  "));
+    }
+}
+
+/// Whether each number that a call can answer was met, and no other.
+fn is_complete(tally: &Tally) -> bool {
+    let mut complete = true;
+    for ((name, numbers), row) in NUMBERS.iter().zip(tally) {
+        for (number, count) in row.iter().enumerate() {
+            if (*count > 0) != numbers.contains(&number) {
+                println!("{name:?} answered {number} {count} times");
+                complete = false;
+            }
+        }
+    }
+    complete
+}
+
+impl Course {
+    /// The sweeps and then the episodes.
+    fn sweep_and_run(&mut self, plan: &Plan) -> Result<(), Difference> {
+        for sweep in 0..plan.sweeps {
+            self.sweep(plan.seed, sweep)?;
+        }
+        self.run(plan.seed, plan.calls, side::product)
+    }
+
+    /// Corrupts each byte of a store alone and deletes what is not there: the answer is 3 or another refusal.
+    fn sweep(&mut self, seed: u64, sweep: u64) -> Result<(), Difference> {
+        let mut random = Random::part(!seed, sweep);
+        let start = stores::filled(&mut random, SLOTS + 1);
+        let mut stores = Stores { product: Lent::new(&start, random.below(16)), reference: start.clone() };
+        for (at, old) in start.iter().enumerate() {
+            stores.set_byte(at, stores::other_byte(&mut random, *old));
+            self.corruptions += 1;
+            let call = generate::idle_delete(&mut random, (at / PARTITION) as u8);
+            let answer = stores.both(&mut random, &call, side::product);
+            let again = format!("--calls 0 --sweeps {}", sweep + 1);
+            self.count(&call, answer.map_err(|what| Difference { again, call: call.clone(), what })?);
+            stores.set_byte(at, *old);
+        }
+        Ok(())
+    }
+
+    /// Runs episodes until there were this many calls.
+    fn run(&mut self, seed: u64, calls: u64, side: Side) -> Result<(), Difference> {
+        while self.calls < calls {
+            self.episode(seed, self.episodes, side)?;
+        }
+        Ok(())
+    }
+
+    /// Runs one episode: a store to begin with, then calls with corruption between them.
+    fn episode(&mut self, seed: u64, episode: u64, side: Side) -> Result<(), Difference> {
+        let mut random = Random::part(seed, episode);
+        let start = stores::begin(&mut random);
+        let mut stores = Stores { product: Lent::new(&start, random.below(16)), reference: start };
+        let preferred = random.percent(50).then(|| random.below(32) as u8);
+        for _ in 0..50 + random.below(350) {
+            let saved = self.corrupt(&mut random, &mut stores);
+            let turns = if saved.is_some() { 1 + random.below(6) } else { 1 };
+            for _ in 0..turns {
+                let call = self.next_call(&mut random, &stores, preferred);
+                let answer = stores.both(&mut random, &call, side);
+                let answer = answer.map_err(|what| {
+                    let again = format!("--episode {episode}");
+                    Difference { again, call: call.clone(), what }
+                })?;
+                self.count(&call, answer);
+            }
+            if let (Some(saved), true) = (saved, random.percent(96)) {
+                stores.set(&saved);
+            }
+        }
+        self.episodes += 1;
+        Ok(())
+    }
+
+    /// Corrupts both stores now and then: what they were before.
+    fn corrupt(&mut self, random: &mut Random, stores: &mut Stores) -> Option<Vec<u8>> {
+        if stores.reference.len() != STORE || !random.percent(8) {
+            return None;
+        }
+        let saved = stores.reference.clone();
+        let mut corrupted = saved.clone();
+        for _ in 0..random.pick(&[1, 1, 1, 1, 2, 3]) {
+            stores::corrupt(random, &mut corrupted);
+            self.corruptions += 1;
+        }
+        stores.set(&corrupted);
+        Some(saved)
+    }
+
+    /// A random call; the output of a view is often about as long as its listing.
+    fn next_call(&self, random: &mut Random, stores: &Stores, preferred: Option<u8>) -> Call {
+        let mut call = generate::call(random, &stores.reference, preferred);
+        if call.name == Name::View && random.percent(30) {
+            let mut space = vec![0; generate::ROOMY];
+            let needed = reference::view(&stores.reference, call.subject, &call.path, &mut space).count as usize;
+            call.output = random.pick(&[needed, needed.saturating_sub(1), needed + 1, needed / 2]);
+        }
+        call
+    }
+
+    /// Counts a call and its answer.
+    fn count(&mut self, call: &Call, answer: Answer) {
+        self.calls += 1;
+        self.tally[call.name as usize][answer.number as usize] += 1;
+    }
+}
+
+impl Stores {
+    /// Lays these bytes into both stores.
+    fn set(&mut self, bytes: &[u8]) {
+        self.product.bytes_mut().copy_from_slice(bytes);
+        self.reference.copy_from_slice(bytes);
+    }
+
+    /// Sets one byte of both stores.
+    fn set_byte(&mut self, at: usize, byte: u8) {
+        self.product.bytes_mut()[at] = byte;
+        self.reference[at] = byte;
+    }
+
+    /// Makes the call on both sides: the answer, or what is different.
+    fn both(&mut self, random: &mut Random, call: &Call, side: Side) -> Result<Answer, String> {
+        let fill = vec![random.byte(); if call.name == Name::View { call.output } else { 0 }];
+        let mut lent = Lent::new(&fill, random.below(16));
+        let mut output = fill;
+        let other = side(call, self.product.bytes_mut(), lent.bytes_mut());
+        let answer = side::reference(call, &mut self.reference, &mut output);
+        if other != answer {
+            return Err(format!("the product answers {other:?}, the Rust program {answer:?}"));
+        }
+        same("output", lent.bytes(), &output)?;
+        same("store", self.product.bytes(), &self.reference)?;
+        if !(lent.guards_stand() && self.product.guards_stand()) {
+            return Err("a byte outside the lent ones was written".to_string());
+        }
+        Ok(answer)
+    }
+}
+
+/// Where two outputs or stores differ first, if they do.
+fn same(what: &str, product: &[u8], reference: &[u8]) -> Result<(), String> {
+    if product == reference {
+        return Ok(());
+    }
+    let at = product.iter().zip(reference).position(|(one, two)| one != two).unwrap_or(0);
+    Err(format!("byte {at} of the {what}: the product leaves {}, the Rust program {}", product[at], reference[at]))
+}

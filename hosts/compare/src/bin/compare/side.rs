@@ -1,0 +1,48 @@
+//! The calls that are compared, and who carries them out.
+use reference::Answer;
+
+/// Which of the four calls.
+#[derive(Clone, Copy, PartialEq, Eq, Debug)]
+pub enum Name {
+    View,
+    Insert,
+    Update,
+    Delete,
+}
+
+/// A call with its inputs.
+#[derive(Clone, Debug)]
+pub struct Call {
+    pub name: Name,
+    pub subject: u32,
+    pub path: Vec<u8>,
+    pub kind: u32,
+    pub value: Vec<u8>,
+    pub output: usize,
+}
+
+/// Carries a call out on a lent store and a lent output.
+pub type Side = fn(&Call, &mut [u8], &mut [u8]) -> Answer;
+
+/// The Rust program.
+pub fn reference(call: &Call, store: &mut [u8], output: &mut [u8]) -> Answer {
+    let Call { name, subject, path, kind, value, .. } = call;
+    match name {
+        Name::View => reference::view(store, *subject, path, output),
+        Name::Insert => reference::insert(store, *subject, path, *kind, value),
+        Name::Update => reference::update(store, *subject, path, *kind, value),
+        Name::Delete => reference::delete(store, *subject, path),
+    }
+}
+
+/// The product.
+pub fn product(call: &Call, store: &mut [u8], output: &mut [u8]) -> Answer {
+    let Call { name, subject, path, kind, value, .. } = call;
+    let product::Answer { number, count } = match name {
+        Name::View => product::view(store, *subject, path, output),
+        Name::Insert => product::insert(store, *subject, path, *kind, value),
+        Name::Update => product::update(store, *subject, path, *kind, value),
+        Name::Delete => product::delete(store, *subject, path),
+    };
+    Answer { number, count }
+}

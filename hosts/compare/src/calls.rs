@@ -1,0 +1,140 @@
+//! The four calls and the table of refusals.
+use crate::label::is_label;
+use crate::listing;
+use crate::partition::{self, SLOTS, STORE, dominated, partition};
+use crate::path::Path;
+use crate::value::Value;
+
+/// What a call answers: 0 or the number of its refusal, and its count.
+#[derive(Clone, Copy, PartialEq, Eq, Debug)]
+pub struct Answer {
+    pub number: u32,
+    pub count: u64,
+}
+
+/// Why a call is refused, with its number.
+#[derive(Clone, Copy, PartialEq, Eq, Debug)]
+pub enum Refusal {
+    StoreLength = 1,
+    Subject = 2,
+    Corruption = 3,
+    Path = 4,
+    Value = 5,
+    OtherLabel = 6,
+    Absent = 7,
+    Live = 8,
+    Full = 9,
+    Output = 10,
+}
+
+/// The answer of a call that was done or refused.
+fn answer(done: Result<usize, Refusal>) -> Answer {
+    match done {
+        Ok(count) => Answer { number: 0, count: count as u64 },
+        Err(refusal) => Answer { number: refusal as u32, count: 0 },
+    }
+}
+
+/// Lists the path and everything in view below it into the output.
+pub fn view(store: &[u8], subject: u32, path: &[u8], output: &mut [u8]) -> Answer {
+    answer(try_view(store, subject, path, output))
+}
+
+/// Makes an element live.
+pub fn insert(store: &mut [u8], subject: u32, path: &[u8], kind: u32, value: &[u8]) -> Answer {
+    answer(try_insert(store, subject, path, kind, value))
+}
+
+/// Takes an element, and what extends it, from the subject's partition and puts it back with the new value.
+pub fn update(store: &mut [u8], subject: u32, path: &[u8], kind: u32, value: &[u8]) -> Answer {
+    answer(try_update(store, subject, path, kind, value))
+}
+
+/// Takes an element, and what extends it, from the subject's partition.
+pub fn delete(store: &mut [u8], subject: u32, path: &[u8]) -> Answer {
+    answer(try_delete(store, subject, path))
+}
+
+/// The view, or why it is refused.
+fn try_view(store: &[u8], subject: u32, path: &[u8], output: &mut [u8]) -> Result<usize, Refusal> {
+    let subject = subject_of(store, subject)?;
+    let path = Path::read(path).ok_or(Refusal::Path)?;
+    let listing = listing::listing(store, subject, &path).ok_or(Refusal::Absent)?;
+    let written = output.get_mut(..listing.len()).ok_or(Refusal::Output)?;
+    written.copy_from_slice(&listing);
+    Ok(listing.len())
+}
+
+/// The insert, or why it is refused.
+fn try_insert(store: &mut [u8], subject: u32, path: &[u8], kind: u32, value: &[u8]) -> Result<usize, Refusal> {
+    let subject = subject_of(store, subject)?;
+    let path = element_path(path)?;
+    Value::read(kind, value).ok_or(Refusal::Value)?;
+    own_path(subject, &path)?;
+    if !is_in_view(store, subject, &path.parent()) {
+        return Err(Refusal::Absent);
+    }
+    let own = partition(store, subject);
+    let Err(at) = own.find(&path) else { return Err(Refusal::Live) };
+    if own.count() == SLOTS {
+        return Err(Refusal::Full);
+    }
+    partition::put_slot(store, subject, at, &partition::slot_of(&path, kind as u8, value));
+    Ok(0)
+}
+
+/// The update, or why it is refused.
+fn try_update(store: &mut [u8], subject: u32, path: &[u8], kind: u32, value: &[u8]) -> Result<usize, Refusal> {
+    let subject = subject_of(store, subject)?;
+    let path = element_path(path)?;
+    Value::read(kind, value).ok_or(Refusal::Value)?;
+    own_path(subject, &path)?;
+    let (at, taken) = take(store, subject, &path)?;
+    partition::put_slot(store, subject, at, &partition::slot_of(&path, kind as u8, value));
+    Ok(taken)
+}
+
+/// The delete, or why it is refused.
+fn try_delete(store: &mut [u8], subject: u32, path: &[u8]) -> Result<usize, Refusal> {
+    let subject = subject_of(store, subject)?;
+    let path = element_path(path)?;
+    own_path(subject, &path)?;
+    let (_, taken) = take(store, subject, &path)?;
+    Ok(taken)
+}
+
+/// Rows 1 to 3: the subject's label, if the store has the right length and its dominated partitions are well formed.
+fn subject_of(store: &[u8], subject: u32) -> Result<u8, Refusal> {
+    if store.len() != STORE {
+        return Err(Refusal::StoreLength);
+    }
+    let subject = u8::try_from(subject).ok().filter(|number| is_label(*number)).ok_or(Refusal::Subject)?;
+    if !dominated(store, subject).all(|part| part.is_well_formed()) {
+        return Err(Refusal::Corruption);
+    }
+    Ok(subject)
+}
+
+/// Row 4 for an element's path, which is not the root's.
+fn element_path(path: &[u8]) -> Result<Path, Refusal> {
+    Path::read(path).filter(|path| path.depth() > 0).ok_or(Refusal::Path)
+}
+
+/// Row 6: the path's last label is the subject's.
+fn own_path(subject: u8, path: &Path) -> Result<(), Refusal> {
+    if path.label() == Some(subject) { Ok(()) } else { Err(Refusal::OtherLabel) }
+}
+
+/// Whether the path is in the subject's view; the root always is.
+fn is_in_view(store: &[u8], subject: u8, path: &Path) -> bool {
+    path.depth() == 0 || dominated(store, subject).any(|part| part.below(path).1.next().is_some())
+}
+
+/// Takes a live element and what extends it: where it stood, and how many were taken.
+fn take(store: &mut [u8], subject: u8, path: &Path) -> Result<(usize, usize), Refusal> {
+    let own = partition(store, subject);
+    let at = own.find(path).map_err(|_| Refusal::Absent)?;
+    let taken = own.below(path).1.count();
+    partition::take_slots(store, subject, at, taken);
+    Ok((at, taken))
+}

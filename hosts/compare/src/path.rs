@@ -1,0 +1,115 @@
+//! Paths and their order.
+use crate::label::{dominates, is_label};
+use std::cmp::Ordering;
+
+/// The most steps of a path.
+pub const DEPTH: usize = 6;
+
+/// One step. The order is by name first and then by label.
+#[derive(Clone, Copy, Default, PartialEq, Eq, PartialOrd, Ord, Debug)]
+pub struct Step {
+    pub name: u16,
+    pub label: u8,
+}
+
+/// A path of up to six steps; that of the root has none.
+#[derive(Clone, Copy, Default, Debug)]
+pub struct Path {
+    steps: [Step; DEPTH],
+    depth: u8,
+}
+
+impl Path {
+    /// The path with these steps, at most six.
+    pub fn new(given: &[Step]) -> Path {
+        Path::of(given.len(), |at| given[at])
+    }
+
+    /// The path of this many steps, at most six, each given by its place.
+    pub fn of(depth: usize, step: impl Fn(usize) -> Step) -> Path {
+        let mut path = Path { steps: [Step::default(); DEPTH], depth: depth as u8 };
+        for (at, to) in path.steps.iter_mut().enumerate().take(depth) {
+            *to = step(at);
+        }
+        path
+    }
+
+    /// Reads a path of three bytes a step; nothing if it is not a valid one. The root's is read too.
+    pub fn read(bytes: &[u8]) -> Option<Path> {
+        let (given, rest) = bytes.as_chunks::<3>();
+        if !rest.is_empty() || given.len() > DEPTH {
+            return None;
+        }
+        let path = Path::of(given.len(), |at| {
+            let [low, high, label] = given[at];
+            Step { name: u16::from_le_bytes([low, high]), label }
+        });
+        path.is_valid().then_some(path)
+    }
+
+    /// Whether no name is 0, each label is one, and each dominates the one before.
+    pub fn is_valid(&self) -> bool {
+        self.steps().iter().all(|step| step.name != 0 && is_label(step.label))
+            && self.steps().windows(2).all(|pair| dominates(pair[1].label, pair[0].label))
+    }
+
+    /// The path's steps.
+    pub fn steps(&self) -> &[Step] {
+        &self.steps[..self.depth()]
+    }
+
+    /// How many steps it has.
+    pub fn depth(&self) -> usize {
+        usize::from(self.depth)
+    }
+
+    /// Its last step's label; the root has none.
+    pub fn label(&self) -> Option<u8> {
+        self.steps().last().map(|step| step.label)
+    }
+
+    /// The steps but for the last.
+    pub fn parent(&self) -> Path {
+        Path { steps: self.steps, depth: self.depth.saturating_sub(1) }
+    }
+
+    /// Whether it is the other path or extends it.
+    pub fn extends(&self, other: &Path) -> bool {
+        self.steps().starts_with(other.steps())
+    }
+
+    /// How many steps both begin with.
+    pub fn shared(&self, other: &Path) -> usize {
+        self.steps().iter().zip(other.steps()).take_while(|(one, two)| one == two).count()
+    }
+
+    /// The path as three bytes a step.
+    pub fn bytes(&self) -> Vec<u8> {
+        let step = |step: &Step| {
+            let [low, high] = step.name.to_le_bytes();
+            [low, high, step.label]
+        };
+        self.steps().iter().flat_map(step).collect()
+    }
+}
+
+impl Ord for Path {
+    /// Step by step; a beginning comes before its extensions.
+    fn cmp(&self, other: &Path) -> Ordering {
+        self.steps().cmp(other.steps())
+    }
+}
+
+impl PartialOrd for Path {
+    fn partial_cmp(&self, other: &Path) -> Option<Ordering> {
+        Some(self.cmp(other))
+    }
+}
+
+impl PartialEq for Path {
+    fn eq(&self, other: &Path) -> bool {
+        self.steps() == other.steps()
+    }
+}
+
+impl Eq for Path {}

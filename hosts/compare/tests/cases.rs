@@ -1,0 +1,210 @@
+//! Document 01's test cuts, run on the Rust program, and its well-formedness test and listing against plain definitions.
+use reference::label::{LABELS, dominates};
+use reference::partition::{PARTITION, partition};
+use reference::path::{Path, Step};
+use reference::random::Random;
+use reference::{STORE, delete, insert, script, update, view};
+use std::collections::BTreeMap;
+
+/// The bytes of a path given as names and labels.
+fn path(steps: &[(u16, u8)]) -> Vec<u8> {
+    steps.iter().flat_map(|(name, label)| [*name as u8, (*name >> 8) as u8, *label]).collect()
+}
+
+/// Inserts a group: the answer's number.
+fn group(store: &mut [u8], subject: u32, steps: &[(u16, u8)]) -> u32 {
+    insert(store, subject, &path(steps), 0, &[]).number
+}
+
+/// What the runner prints for a script.
+fn run(script: &[u8]) -> String {
+    let mut printed = Vec::new();
+    script::run(script, &mut printed).expect("a vector takes every byte");
+    String::from_utf8(printed).expect("the printed bytes are plain")
+}
+
+#[test]
+fn dominance() {
+    assert!(dominates(19, 17));
+    assert!(!dominates(16, 9) && !dominates(9, 16));
+    assert!((0..LABELS).all(|label| dominates(label, label) && dominates(31, label) && dominates(label, 0)));
+}
+
+#[test]
+fn inserts_and_refusals() {
+    let mut store = vec![0; STORE];
+    assert_eq!(group(&mut store, 0, &[(10, 0)]), 0);
+    assert_eq!(group(&mut store, 0, &[(10, 0)]), 8);
+    assert_eq!(group(&mut store, 16, &[(10, 16)]), 0);
+    assert_eq!(delete(&mut store, 16, &path(&[(10, 0)])).number, 6);
+    assert_eq!(view(&store, 0, &path(&[(10, 16)]), &mut []).number, 7);
+    assert_eq!(group(&mut store, 9, &[(10, 16), (20, 9)]), 4);
+    assert_eq!(group(&mut [], 40, &[(10, 0)]), 1);
+}
+
+#[test]
+fn six_steps_and_seven() {
+    let mut store = vec![0; STORE];
+    let steps = [(1, 0); 7];
+    for depth in 1..=6 {
+        assert_eq!(group(&mut store, 0, &steps[..depth]), 0);
+    }
+    assert_eq!(group(&mut store, 0, &steps), 4);
+}
+
+#[test]
+fn a_full_partition() {
+    let mut store = vec![0; STORE];
+    for name in 1..=32 {
+        assert_eq!(group(&mut store, 0, &[(name, 0)]), 0);
+    }
+    assert_eq!(group(&mut store, 0, &[(33, 0)]), 9);
+    assert_eq!(group(&mut store, 1, &[(33, 1)]), 0);
+    assert_eq!(delete(&mut store, 0, &path(&[(7, 0)])).count, 1);
+    assert_eq!(group(&mut store, 0, &[(33, 0)]), 0);
+}
+
+#[test]
+fn lengths_of_texts() {
+    let mut store = vec![0; STORE];
+    let number = |store: &mut [u8], name, length| insert(store, 0, &path(&[(name, 0)]), 2, &vec![b'x'; length]).number;
+    assert_eq!([0, 1, 16, 17].map(|length| number(&mut store, 1 + length as u16, length)), [5, 0, 0, 5]);
+}
+
+#[test]
+fn an_update_whose_parent_is_in_view_through_it_alone() {
+    let mut store = vec![0; STORE];
+    group(&mut store, 0, &[(1, 0)]);
+    group(&mut store, 8, &[(1, 0), (2, 8)]);
+    group(&mut store, 8, &[(1, 0), (2, 8), (3, 8)]);
+    delete(&mut store, 0, &path(&[(1, 0)]));
+    let answer = update(&mut store, 8, &path(&[(1, 0), (2, 8)]), 2, b"NEW");
+    assert_eq!((answer.number, answer.count), (0, 2));
+}
+
+/// The document's script.
+const SCRIPT: &[u8] = b"0\tI\t10:0\tG\t-\n16\tI\t10:0/20:16\tM\t-150\n0\tD\t10:0\n0\tV\t/\n16\tV\t/\n";
+
+#[test]
+fn the_documents_script() {
+    let answers = "A\t0\t0\nA\t0\t0\nA\t0\t1\nVIEW\t0\t0\nA\t0\t9\n";
+    let listing = "VIEW\t16\t2\n1\t10\t0\tR\t-\t-\n2\t20\t16\tP\tM\t-150\nA\t0\t40\n";
+    assert_eq!(run(SCRIPT), [answers, listing].concat());
+}
+
+#[test]
+fn a_removed_element_comes_again() {
+    let script = [SCRIPT, b"0\tI\t10:0\tT\tSLEEVE\n16\tV\t10:0"].concat();
+    let end = "A\t0\t0\nVIEW\t16\t2\n1\t10\t0\tP\tT\tSLEEVE\n2\t20\t16\tP\tM\t-150\nA\t0\t45\n";
+    assert!(run(&script).ends_with(end), "{}", run(&script));
+}
+
+#[test]
+fn an_output_that_is_just_long_enough() {
+    let mut store = vec![0; STORE];
+    group(&mut store, 0, &[(10, 0)]);
+    insert(&mut store, 16, &path(&[(10, 0), (20, 16)]), 1, &(-150_i32).to_le_bytes());
+    delete(&mut store, 0, &path(&[(10, 0)]));
+    let mut output = [7; 41];
+    assert_eq!(view(&store, 16, &[], &mut output[..39]).number, 10);
+    assert_eq!(output, [7; 41]);
+    assert_eq!(view(&store, 16, &[], &mut output).count, 40);
+    assert_eq!(output[40], 7);
+}
+
+#[test]
+fn lines_that_do_not_read() {
+    let lines = [
+        "",
+        "0\tV",
+        "00\tV\t/",
+        "256\tV\t/",
+        "0\tV\t/\t",
+        "0\tI\t1:0\tM\t-0",
+        "0\tI\t1:0\tG\t",
+        "0\tV\t1",
+        "0\tV\t//",
+        "+0\tV\t/",
+    ];
+    for line in lines {
+        assert_eq!(run(format!("{line}\n").as_bytes()), "A\t?\t0\n", "{line}");
+    }
+    assert_eq!(run(b""), "");
+    assert_eq!(run(b"0\tI\t1:0\tM\t-2147483648\n0\tV\t/").lines().nth(2), Some("1\t1\t0\tP\tM\t-2147483648"));
+}
+
+#[test]
+fn the_longest_line() {
+    let line = |length: usize| format!("{:x<length$}\n", "0\tI\t1:0\tT\t");
+    assert_eq!(run(line(256).as_bytes()), "A\t5\t0\n");
+    assert_eq!(run(line(257).as_bytes()), "A\t?\t0\n");
+}
+
+/// A store after many random calls.
+fn grown(random: &mut Random) -> Vec<u8> {
+    let mut store = vec![0; STORE];
+    for _ in 0..400 {
+        let labels: Vec<u8> = (0..LABELS).collect();
+        let mut label = 0;
+        let mut steps = Vec::new();
+        for _ in 0..1 + random.below(4) {
+            label = random.pick(&labels.iter().copied().filter(|above| dominates(*above, label)).collect::<Vec<_>>());
+            steps.push((1 + random.below(3) as u16, label));
+        }
+        group(&mut store, label.into(), &steps);
+        if random.percent(10) {
+            delete(&mut store, label.into(), &path(&steps));
+        }
+    }
+    store
+}
+
+/// The listed steps by the document's words: each dominated live path and its beginnings, once each, and if it is live.
+fn listed(store: &[u8], subject: u8) -> BTreeMap<Path, bool> {
+    let mut listed = BTreeMap::new();
+    for label in (0..LABELS).filter(|label| dominates(subject, *label)) {
+        for slot in partition(store, label).slots() {
+            let steps = slot.path();
+            for depth in 1..steps.depth() {
+                listed.entry(Path::new(&steps.steps()[..depth])).or_insert(false);
+            }
+            listed.insert(steps, true);
+        }
+    }
+    listed
+}
+
+#[test]
+fn listings_hold_what_the_document_says() {
+    let mut random = Random::new(5);
+    for _ in 0..20 {
+        let store = grown(&mut random);
+        let subject = random.below(32) as u8;
+        let mut output = vec![0; 262_144];
+        let count = view(&store, subject.into(), &[], &mut output).count as usize;
+        let text = String::from_utf8_lossy(&output[..count]);
+        let lines: Vec<String> =
+            text.lines().skip(1).map(|line| line.split('\t').take(4).collect::<Vec<_>>().join(" ")).collect();
+        let line = |(path, live): (&Path, &bool)| {
+            let Step { name, label } = path.steps()[path.depth() - 1];
+            format!("{} {name} {label} {}", path.depth(), if *live { 'P' } else { 'R' })
+        };
+        assert_eq!(lines, listed(&store, subject).iter().map(line).collect::<Vec<_>>());
+    }
+}
+
+#[test]
+fn a_missing_beginning_is_found_at_every_depth() {
+    let mut store = vec![0; STORE];
+    for depth in 1..=6 {
+        group(&mut store, 0, &[(1, 0); 6][..depth]);
+    }
+    for gone in 0..5 {
+        let mut corrupted = store.clone();
+        corrupted.copy_within(4 + 40 * (gone + 1)..PARTITION, 4 + 40 * gone);
+        corrupted[PARTITION - 40..PARTITION].fill(0);
+        corrupted[0] -= 1;
+        assert!(!partition(&corrupted, 0).is_well_formed(), "without the path of {} steps", gone + 1);
+    }
+    assert!(partition(&store, 0).is_well_formed());
+}

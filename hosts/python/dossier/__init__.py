@@ -1,0 +1,69 @@
+"""The labelled dossier store, as a module over the archive libdossier_c.a (`rt staticlib dossier_c`).
+
+A Store is 41,088 bytes, its own or lent: 32 partitions, one for each label. Subjects view and change one tree of elements, each
+under a label of their own; what a subject sees and is told owes nothing to subjects that he does not dominate. The calls
+themselves are proved; this module only passes bytes and numbers on and reads the answers.
+
+The typed calls are methods of Store. Below them, dossier.raw has the four calls on bytes of any length and on numbers of 32
+bits: no number is narrowed on its way, so that a subject of 287 is refused by 2 and a kind of 256 by 5. A number that does not
+fit 32 bits never reaches the library: it raises ValueError.
+
+A subject of label 0 inserts a style and a subject of label 16 a measure under it; 0 deletes the style, and 16 still sees it,
+marked as removed, above his measure:
+
+    >>> from dossier import Group, Label, Level, Measure, Refusal, Refused, Step, Store
+    >>> open_subject, house_subject = Label(Level.OPEN), Label(Level.HOUSE)
+    >>> style = [Step(10, open_subject)]
+    >>> sleeve = style + [Step(20, house_subject)]
+    >>> store = Store()
+    >>> store.insert(open_subject, style, Group())
+    0
+    >>> store.insert(house_subject, sleeve, Measure(-150))
+    0
+    >>> store.delete(open_subject, style)
+    1
+    >>> view = store.view(house_subject)
+    >>> len(view.listing)
+    40
+    >>> for line in view:
+    ...     print(line.depth, line.name, line.label.number, "live" if line.live else "removed", line.value)
+    1 10 0 removed None
+    2 20 16 live Measure(hundredths=-150)
+
+A refusal has a number and changes nothing:
+
+    >>> try:
+    ...     store.delete(open_subject, style)
+    ... except Refused as refused:
+    ...     print(refused.answer.number, refused.refusal is Refusal.ABSENT)
+    7 True
+"""
+from .answer import Answer, Refusal, Refused, UnexpectedAnswer
+from .label import Compartment, Label, Level
+from .listing import Line, Unreadable, View
+from .path import Step
+from .raw import LISTING_BYTES_MAX, PARTITION_BYTES, STORE_BYTES
+from .store import Store
+from .value import Group, Kind, Measure, Text
+
+__all__ = [
+    "Answer",
+    "Compartment",
+    "Group",
+    "Kind",
+    "LISTING_BYTES_MAX",
+    "Label",
+    "Level",
+    "Line",
+    "Measure",
+    "PARTITION_BYTES",
+    "Refusal",
+    "Refused",
+    "STORE_BYTES",
+    "Step",
+    "Store",
+    "Text",
+    "UnexpectedAnswer",
+    "Unreadable",
+    "View",
+]

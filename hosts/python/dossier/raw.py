@@ -1,0 +1,119 @@
+"""The four calls on lent bytes, of any length, and on numbers of 32 bits, which reach the library as they are.
+
+A store or an output that is written is any writable buffer (a bytearray, an mmap, a memoryview of one); a path, a value and the
+store of a view may be bytes too. `include/dossier.h` says what the calls do. What they ask of a host is seen to here: a buffer
+that is written and overlaps another one of the call raises ValueError, and a call keeps other Python threads waiting.
+"""
+import ctypes
+import operator
+
+from .answer import Answer, ExportedAnswer
+from .archive import shared_object
+
+# How many bytes a store has.
+STORE_BYTES = 41088
+
+# How many bytes a partition has; the one of label n starts at n times this.
+PARTITION_BYTES = 1284
+
+# No listing has more bytes: at most 1,024 lines of live elements, 5,120 of removed ones and the first.
+LISTING_BYTES_MAX = 119821
+
+# A buffer's address and length, and a number of 32 bits.
+_BUFFER = [ctypes.c_void_p, ctypes.c_size_t]
+_WORD = [ctypes.c_uint32]
+
+# The exported functions and what each takes.
+_DECLARED = {
+    "dossier_view": _BUFFER + _WORD + _BUFFER + _BUFFER,
+    "dossier_insert": _BUFFER + _WORD + _BUFFER + _WORD + _BUFFER,
+    "dossier_update": _BUFFER + _WORD + _BUFFER + _WORD + _BUFFER,
+    "dossier_delete": _BUFFER + _WORD + _BUFFER,
+}
+
+
+def _load():
+    """The library with its functions declared. A PyDLL's calls keep other Python threads from writing what is lent."""
+    library = ctypes.PyDLL(str(shared_object()))
+    for name, arguments in _DECLARED.items():
+        function = getattr(library, name)
+        function.argtypes = arguments
+        function.restype = ExportedAnswer
+    return library
+
+
+_library = _load()
+
+
+def _word(number):
+    """A number that fits 32 bits, or ValueError: ctypes would cut it."""
+    number = operator.index(number)
+    if not 0 <= number < 2**32:
+        raise ValueError(f"{number} does not fit 32 bits")
+    return number
+
+
+def _written(buffer):
+    """A buffer to be written, as an array of its bytes. TypeError if it is not writable."""
+    return (ctypes.c_uint8 * memoryview(buffer).nbytes).from_buffer(buffer)
+
+
+def _read(buffer):
+    """A buffer to be read, as an array of its bytes; of one that is not writable a copy."""
+    view = memoryview(buffer)
+    kind = ctypes.c_uint8 * view.nbytes
+    return kind.from_buffer_copy(view) if view.readonly else kind.from_buffer(view)
+
+
+def _overlap(one, other):
+    """Whether two arrays have a byte in common."""
+    first, second = ctypes.addressof(one), ctypes.addressof(other)
+    return max(first, second) < min(first + len(one), second + len(other))
+
+
+def _apart(written, *others):
+    """Refuses a written array that overlaps another one of the call."""
+    if any(_overlap(written, other) for other in others):
+        raise ValueError("a buffer that is written overlaps another one of the call")
+
+
+def _lend(array):
+    """An array's address and length."""
+    return ctypes.addressof(array), len(array)
+
+
+def _answer(exported):
+    """The answer's two numbers."""
+    return Answer(exported.number, exported.count)
+
+
+def view(store, subject, path, output):
+    """Lists the path and everything in the subject's view below it into the output. Count: the bytes written; those behind
+    them keep their contents."""
+    store, path, output = _read(store), _read(path), _written(output)
+    _apart(output, store, path)
+    return _answer(_library.dossier_view(*_lend(store), _word(subject), *_lend(path), *_lend(output)))
+
+
+def insert(store, subject, path, kind, value):
+    """Makes one live element with a value, in the subject's partition. Count: 0."""
+    return _bring(_library.dossier_insert, store, subject, path, kind, value)
+
+
+def update(store, subject, path, kind, value):
+    """Deletes as delete does and puts the element back with another value. Count: how many elements were taken."""
+    return _bring(_library.dossier_update, store, subject, path, kind, value)
+
+
+def delete(store, subject, path):
+    """Deletes the element and every live element below it of the same label. Count: how many were taken."""
+    store, path = _written(store), _read(path)
+    _apart(store, path)
+    return _answer(_library.dossier_delete(*_lend(store), _word(subject), *_lend(path)))
+
+
+def _bring(function, store, subject, path, kind, value):
+    """A call that brings a value."""
+    store, path, value = _written(store), _read(path), _read(value)
+    _apart(store, path, value)
+    return _answer(function(*_lend(store), _word(subject), *_lend(path), _word(kind), *_lend(value)))

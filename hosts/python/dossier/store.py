@@ -1,0 +1,34 @@
+"""The store and its typed calls."""
+from . import raw
+from .listing import View
+from .path import path_bytes
+
+
+class Store:
+    """A store: its own bytes, or any writable buffer of any contents and length, written in place.
+
+    A buffer of another length than STORE_BYTES makes every call refuse by 1.
+    """
+
+    def __init__(self, buffer=None):
+        """An empty store, or one over a lent buffer."""
+        self.buffer = bytearray(raw.STORE_BYTES) if buffer is None else buffer
+
+    def view(self, subject, path=(), output=None):
+        """Lists the path and everything in the subject's view below it, into the output if one is lent; its bytes behind the
+        listing keep their contents."""
+        room = bytearray(raw.LISTING_BYTES_MAX) if output is None else output
+        count = raw.view(self.buffer, subject.number, path_bytes(path), room).outcome()
+        return View(bytes(memoryview(room).cast("B")[:count]))
+
+    def insert(self, subject, path, value):
+        """Makes one live element with a value; its parent must be in view, be it removed. The count: 0."""
+        return raw.insert(self.buffer, subject.number, path_bytes(path), value.kind, value.to_bytes()).outcome()
+
+    def update(self, subject, path, value):
+        """Deletes as delete does and puts the element back with another value. The count: how many elements were taken."""
+        return raw.update(self.buffer, subject.number, path_bytes(path), value.kind, value.to_bytes()).outcome()
+
+    def delete(self, subject, path):
+        """Deletes the element and every live element below it of the same label. The count: how many elements were taken."""
+        return raw.delete(self.buffer, subject.number, path_bytes(path)).outcome()

@@ -1,0 +1,287 @@
+"""The calls through the module: document 01's example, every refusal, and what is left untouched.
+
+    python3 hosts/python/test_dossier.py
+"""
+import doctest
+import unittest
+
+import dossier
+from dossier import raw
+from dossier import Answer, Compartment, Group, Kind, Label, Level, Line, Measure, Refusal, Refused, Step, Store, Text
+from dossier import UnexpectedAnswer, Unreadable, View
+
+# What every output holds before a call.
+FILL = 0xA5
+
+# 10:0, 20:16 and 30:0 below it, and 10:16, as bytes.
+P10 = bytes([10, 0, 0])
+P10_20 = bytes([10, 0, 0, 20, 0, 16])
+P10_30 = bytes([10, 0, 0, 30, 0, 0])
+P10_16 = bytes([10, 0, 16])
+
+# The last listing of document 01's example.
+LISTING = b"VIEW\t16\t2\n1\t10\t0\tR\t-\t-\n2\t20\t16\tP\tM\t-150\n"
+
+# What a call that brings a value is given beside the path: a group.
+GROUP = (0, b"")
+
+
+def label(number):
+    """The label of a number."""
+    return Label.from_number(number)
+
+
+def path(*steps):
+    """The path of names and label numbers."""
+    return [Step(name, label(number)) for name, number in steps]
+
+
+def example(buffer=None):
+    """A store after the three calls of the example that change it."""
+    store = Store(buffer)
+    store.insert(label(0), path((10, 0)), Group())
+    store.insert(label(16), path((10, 0), (20, 16)), Measure(-150))
+    store.delete(label(0), path((10, 0)))
+    return store
+
+
+def output(length=64):
+    """An output full of FILL."""
+    return bytearray([FILL]) * length
+
+
+class CallTest(unittest.TestCase):
+    """Checks that the tests share."""
+
+    def assert_refused(self, number, call, store, *arguments):
+        """A call on bytes is refused by a number, with count 0, and leaves the store."""
+        before = bytes(store)
+        self.assertEqual(call(store, *arguments), Answer(number, 0))
+        self.assertEqual(bytes(store), before)
+
+    def assert_view_refused(self, number, store, subject, path, room=64):
+        """A view is refused by a number and leaves the store and the output."""
+        space = output(room)
+        self.assert_refused(number, raw.view, store, subject, path, space)
+        self.assertEqual(space, output(room))
+
+    def assert_all_refused(self, number, store, subject, path):
+        """Each of the four calls is refused by a number."""
+        self.assert_view_refused(number, store, subject, path)
+        self.assert_writers_refused(number, store, subject, path)
+
+    def assert_writers_refused(self, number, store, subject, path):
+        """Insert, update and delete are refused by a number."""
+        self.assert_refused(number, raw.insert, store, subject, path, *GROUP)
+        self.assert_refused(number, raw.update, store, subject, path, *GROUP)
+        self.assert_refused(number, raw.delete, store, subject, path)
+
+    def assert_raises_refusal(self, refusal, call, *arguments):
+        """A typed call raises a refusal with its number and count 0."""
+        with self.assertRaises(Refused) as raised:
+            call(*arguments)
+        self.assertIs(raised.exception.refusal, refusal)
+        self.assertEqual(raised.exception.answer, Answer(int(refusal), 0))
+
+
+class Done(CallTest):
+    """Calls that are done."""
+
+    def test_example_fits_40_bytes(self):
+        view = example().view(label(16), output=output(40))
+        self.assertEqual(view.listing, LISTING)
+        removed = Line(1, 10, label(0), False, None, None)
+        live = Line(2, 20, label(16), True, Kind.MEASURE, Measure(-150))
+        self.assertEqual(list(view), [removed, live])
+
+    def test_example_in_39_bytes_is_refused_by_10(self):
+        space = output(39)
+        self.assert_raises_refusal(Refusal.OUTPUT_SHORT, example().view, label(16), (), space)
+        self.assertEqual(space, output(39))
+
+    def test_bytes_behind_a_listing_keep_their_contents(self):
+        store = example()
+        before = bytes(store.buffer)
+        space = output()
+        self.assertEqual(store.view(label(0), output=space).listing, b"VIEW\t0\t0\n")
+        self.assertEqual(space, b"VIEW\t0\t0\n" + output(55))
+        self.assertEqual(bytes(store.buffer), before)
+
+    def test_removed_element_comes_again(self):
+        store = example()
+        self.assertEqual(store.insert(label(0), path((10, 0)), Text("SLEEVE")), 0)
+        values = [line.value for line in store.view(label(16), path((10, 0)))]
+        self.assertEqual(values, [Text("SLEEVE"), Measure(-150)])
+
+    def test_counts(self):
+        store = Store()
+        for steps in [(10, 0)], [(10, 0), (30, 0)], [(10, 0), (30, 0), (40, 0)]:
+            self.assertEqual(store.insert(label(0), path(*steps), Group()), 0)
+        self.assertEqual(store.update(label(0), path((10, 0), (30, 0)), Measure(1)), 2)
+        self.assertEqual(store.delete(label(0), path((10, 0))), 2)
+        self.assertEqual(store.buffer, Store().buffer)
+
+    def test_lent_buffer_is_written_in_place(self):
+        buffer = bytearray(raw.STORE_BYTES + 2)
+        example(memoryview(buffer)[1:-1])
+        self.assertEqual(buffer, b"\0" + example().buffer + b"\0")
+
+    def test_view_of_bytes(self):
+        space = output(40)
+        self.assertEqual(raw.view(bytes(example().buffer), 16, b"", space), Answer(0, 40))
+        self.assertEqual(space, LISTING)
+
+    def test_smallest_measure(self):
+        store = Store()
+        store.insert(label(0), path((10, 0)), Measure(-(2**31)))
+        view = store.view(label(0))
+        self.assertEqual(view.listing, b"VIEW\t0\t1\n1\t10\t0\tP\tM\t-2147483648\n")
+        self.assertEqual([line.value for line in view], [Measure(-(2**31))])
+
+
+class Refusals(CallTest):
+    """Refusals 1 to 10, on the numbers as they are."""
+
+    def test_1_store_of_another_length(self):
+        for length in 0, 1, raw.STORE_BYTES - 1, raw.STORE_BYTES + 1:
+            store = bytearray(length)
+            self.assert_all_refused(1, store, 40, P10)
+            self.assert_raises_refusal(Refusal.STORE_LENGTH, Store(store).view, label(0))
+            self.assert_raises_refusal(Refusal.STORE_LENGTH, Store(store).insert, label(0), path((10, 0)), Group())
+            self.assert_raises_refusal(Refusal.STORE_LENGTH, Store(store).update, label(0), path((10, 0)), Group())
+            self.assert_raises_refusal(Refusal.STORE_LENGTH, Store(store).delete, label(0), path((10, 0)))
+
+    def test_2_subject_on_all_its_bits(self):
+        store = example().buffer
+        for subject in 32, 256, 287, 2**32 - 32, 2**32 - 1:
+            self.assert_all_refused(2, store, subject, P10)
+
+    def test_3_partition_not_well_formed(self):
+        store = Store()
+        store.buffer[16 * raw.PARTITION_BYTES] = 33
+        for subject in 16, 17, 24, 31:
+            self.assert_all_refused(3, store.buffer, subject, P10)
+        self.assertEqual(store.view(label(15)).listing, b"VIEW\t15\t0\n")
+        self.assert_raises_refusal(Refusal.NOT_WELL_FORMED, store.view, label(16))
+
+    def test_4_what_is_no_path(self):
+        store = Store()
+        for no_path in b"\0\0\0", b"\x0a\0\x20", b"\x0a\0\x10\x14\0\x09", b"\x0a\0", b"\1\0\0" * 7:
+            self.assert_all_refused(4, store.buffer, 9, no_path)
+        self.assert_writers_refused(4, store.buffer, 0, b"")
+        self.assert_raises_refusal(Refusal.PATH, store.insert, label(0), path((0, 0)), Group())
+
+    def test_5_kind_on_all_its_bits_and_value(self):
+        store = Store()
+        store.insert(label(0), path((10, 0)), Group())
+        no_values = [(3, b"A"), (256, b""), (257, bytes(4)), (258, b"A"), (2**32 - 1, b""), (0, b"A"), (1, bytes(3))]
+        for kind, value in no_values:
+            self.assert_refused(5, raw.insert, store.buffer, 0, P10_30, kind, value)
+            self.assert_refused(5, raw.update, store.buffer, 0, P10, kind, value)
+        for text in "", "SEVENTEEN LETTERS", "\t", "ä":
+            self.assert_raises_refusal(Refusal.VALUE, store.update, label(0), path((10, 0)), Text(text))
+        self.assertEqual(store.update(label(0), path((10, 0)), Text("SIXTEEN LETTERS.")), 1)
+
+    def test_6_7_and_8_of_the_place(self):
+        store = Store()
+        self.assert_view_refused(7, store.buffer, 0, P10)
+        self.assert_writers_refused(7, store.buffer, 0, P10_30)
+        store.insert(label(0), path((10, 0)), Group())
+        store.insert(label(16), path((10, 16)), Group())
+        self.assert_writers_refused(6, store.buffer, 16, P10)
+        self.assert_view_refused(7, store.buffer, 0, P10_16)
+        self.assert_refused(7, raw.delete, store.buffer, 16, P10_20)
+        self.assert_refused(8, raw.insert, store.buffer, 0, P10, *GROUP)
+
+    def test_9_full_partition(self):
+        store = Store()
+        for name in range(1, 33):
+            self.assertEqual(store.insert(label(0), path((name, 0)), Group()), 0)
+        self.assert_refused(9, raw.insert, store.buffer, 0, b"\x21\0\0", *GROUP)
+        self.assertEqual(store.insert(label(16), path((33, 16)), Group()), 0)
+        self.assertEqual(store.delete(label(0), path((10, 0))), 1)
+        self.assertEqual(store.insert(label(0), path((33, 0)), Group()), 0)
+
+    def test_10_output_too_short(self):
+        store = example().buffer
+        for room in 0, 1, 39:
+            self.assert_view_refused(10, store, 16, b"", room)
+
+
+class Wrapper(CallTest):
+    """What the module refuses itself, with the store untouched."""
+
+    def test_numbers_beyond_32_bits(self):
+        store = Store().buffer
+        for number in 2**32, 2**32 + 16, 2**64, -1:
+            for call, arguments in (
+                (raw.view, (number, P10, output())),
+                (raw.insert, (number, P10, *GROUP)),
+                (raw.insert, (0, P10, number, b"")),
+                (raw.update, (number, P10, *GROUP)),
+                (raw.update, (0, P10, number, b"")),
+                (raw.delete, (number, P10)),
+            ):
+                self.assertRaises(ValueError, call, store, *arguments)
+        self.assertEqual(store, Store().buffer)
+
+    def test_numbers_of_the_typed_calls(self):
+        for number in 32, 287, -1:
+            self.assertRaises(ValueError, Label.from_number, number)
+        for number in 65536, -1:
+            self.assertRaises(ValueError, Store().insert, label(0), path((number, 0)), Group())
+        for number in 2**31, -(2**31) - 1:
+            self.assertRaises(ValueError, Measure, number)
+
+    def test_buffers_that_overlap(self):
+        store = example().buffer
+        before = bytes(store)
+        inside = memoryview(store)
+        self.assertRaises(ValueError, raw.view, store, 16, b"", inside[:64])
+        self.assertRaises(ValueError, raw.insert, store, 0, inside[4:7], *GROUP)
+        self.assertRaises(ValueError, raw.update, store, 0, P10, 1, inside[-4:])
+        self.assertRaises(ValueError, raw.delete, store, 0, inside[4:7])
+        self.assertEqual(bytes(store), before)
+
+    def test_buffers_that_are_neighbours(self):
+        buffer = bytearray(P10) + Store().buffer + P10
+        inside = memoryview(buffer)
+        self.assertEqual(raw.insert(inside[3:-3], 0, inside[:3], *GROUP), Answer(0, 0))
+        self.assertEqual(raw.delete(inside[3:-3], 0, inside[-3:]), Answer(0, 1))
+
+    def test_store_that_cannot_be_written(self):
+        self.assertRaises(TypeError, raw.insert, bytes(raw.STORE_BYTES), 0, P10, *GROUP)
+        self.assertRaises(TypeError, raw.view, Store().buffer, 0, b"", bytes(64))
+
+    def test_labels(self):
+        self.assertEqual(Label(Level.HOUSE, Compartment.SIZING | Compartment.FABRIC), label(19))
+        self.assertEqual([label(number).number for number in range(32)], list(range(32)))
+        self.assertTrue(label(19).dominates(label(17)))
+        self.assertFalse(label(16).dominates(label(9)) or label(9).dominates(label(16)))
+        self.assertRaises(ValueError, Label, 4)
+        self.assertRaises(ValueError, Label, Level.OPEN, 8)
+
+    def test_answers(self):
+        self.assertEqual(Answer(0, 40).outcome(), 40)
+        for refusal in Refusal:
+            self.assert_raises_refusal(refusal, Answer(int(refusal), 0).outcome)
+        for answer in Answer(11, 0), Answer(7, 1):
+            with self.assertRaises(UnexpectedAnswer) as raised:
+                answer.outcome()
+            self.assertEqual(raised.exception.answer, answer)
+
+    def test_what_is_no_line(self):
+        lines = ["", "1\t10\t0\tP\tG", "1\t10\t32\tP\tG\t-", "1\tx\t0\tP\tG\t-", "1\t10\t0\tR\tG\t-", "1\t10\t0\tP\tM\tx"]
+        for line in lines + ["1\t10\t0\tP\tG\t-\t7", "1\t10\t0\tQ\tG\t-"]:
+            self.assertRaises(Unreadable, list, View(f"VIEW\t0\t1\n{line}\n".encode()))
+        self.assertRaises(Unreadable, list, View(b"VIEW\t0\t1\n1\t10\t0\tP\tG\t-"))
+
+
+def load_tests(loader, tests, pattern):
+    """The tests above and the example in the module's documentation."""
+    tests.addTests(doctest.DocTestSuite(dossier))
+    return tests
+
+
+if __name__ == "__main__":
+    unittest.main()

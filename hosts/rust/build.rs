@@ -1,0 +1,33 @@
+//! Tells the linker where the archive of the calls is: target/staticlib at the project's root, or the folder that the
+//! environment variable DOSSIER_C_DIR names.
+
+use std::env;
+use std::path::{Path, PathBuf};
+use std::process::ExitCode;
+
+/// The variable that may name another folder.
+const VARIABLE: &str = "DOSSIER_C_DIR";
+
+/// The folder that holds the archive.
+fn archive_folder() -> PathBuf {
+    match env::var_os(VARIABLE) {
+        Some(folder) => PathBuf::from(folder),
+        None => Path::new(env!("CARGO_MANIFEST_DIR")).join("../../target/staticlib"),
+    }
+}
+
+fn main() -> ExitCode {
+    println!("cargo:rerun-if-changed=build.rs");
+    println!("cargo:rerun-if-env-changed={VARIABLE}");
+    let folder = archive_folder();
+    let archive = folder.join("libdossier_c.a");
+    println!("cargo:rerun-if-changed={}", archive.display());
+    if !archive.is_file() {
+        eprintln!("{} is missing: run `rt staticlib dossier_c` at the project's root,", archive.display());
+        eprintln!("or set {VARIABLE} to the folder that holds libdossier_c.a.");
+        return ExitCode::FAILURE;
+    }
+    println!("cargo:rustc-link-search=native={}", folder.display());
+    println!("cargo:rustc-link-lib=static=dossier_c");
+    ExitCode::SUCCESS
+}

@@ -1,0 +1,162 @@
+//! What a call answers, and the refusals.
+
+use std::fmt;
+
+/// What a call answers: 0 or the number of its refusal, and its count.
+#[repr(C)]
+#[derive(Clone, Copy, Debug, PartialEq, Eq, Hash)]
+#[must_use]
+pub struct Answer {
+    /// 0 if the call is done, else the number of the refusal.
+    pub number: u32,
+    /// The bytes that a view wrote, or the elements that a delete or an update took; else 0.
+    pub count: u64,
+}
+
+impl Answer {
+    /// The count of a call that is done, or why it is not.
+    pub fn outcome(self) -> Result<u64, Error> {
+        match self {
+            Answer { number: 0, count } => Ok(count),
+            Answer { number, count: 0 } => Err(Refusal::from_number(number).map_or(Error::Unexpected(self), Error::Refused)),
+            _ => Err(Error::Unexpected(self)),
+        }
+    }
+}
+
+/// Why a call is refused: the first cause, in this order, that applies. A refused call leaves the store and the output.
+#[derive(Clone, Copy, Debug, PartialEq, Eq, PartialOrd, Ord, Hash)]
+pub enum Refusal {
+    /// 1: the store is not 41,088 bytes long.
+    StoreLength = 1,
+    /// 2: the subject is no label.
+    Subject = 2,
+    /// 3: a partition that the subject dominates is not well formed.
+    NotWellFormed = 3,
+    /// 4: the path is none, or it is the root's and the call is not a view.
+    Path = 4,
+    /// 5: the kind, or the value's length or bytes, are not allowed.
+    Value = 5,
+    /// 6: the path's last label is not the subject's.
+    OtherLabel = 6,
+    /// 7: the path of a view or the parent of an insert is not in view, or the element of an update or a delete is not live.
+    Absent = 7,
+    /// 8: the element of an insert is live already.
+    Live = 8,
+    /// 9: the subject's partition holds 32 elements.
+    Full = 9,
+    /// 10: the output is shorter than the listing.
+    OutputShort = 10,
+}
+
+impl Refusal {
+    /// All refusals, in the order of their numbers.
+    pub const ALL: [Refusal; 10] = [
+        Refusal::StoreLength,
+        Refusal::Subject,
+        Refusal::NotWellFormed,
+        Refusal::Path,
+        Refusal::Value,
+        Refusal::OtherLabel,
+        Refusal::Absent,
+        Refusal::Live,
+        Refusal::Full,
+        Refusal::OutputShort,
+    ];
+
+    /// The number that the call answers.
+    pub const fn number(self) -> u32 {
+        self as u32
+    }
+
+    /// The refusal of a number, if it is one.
+    pub fn from_number(number: u32) -> Option<Refusal> {
+        Refusal::ALL.into_iter().find(|refusal| refusal.number() == number)
+    }
+
+    /// The cause in words.
+    fn cause(self) -> &'static str {
+        match self {
+            Refusal::StoreLength => "the store is not 41088 bytes long",
+            Refusal::Subject => "the subject is no label",
+            Refusal::NotWellFormed => "a partition that the subject dominates is not well formed",
+            Refusal::Path => "the path is none",
+            Refusal::Value => "the kind or the value is not allowed",
+            Refusal::OtherLabel => "the path's last label is not the subject's",
+            Refusal::Absent => "the path or its parent is not in view, or the element is not live",
+            Refusal::Live => "the element is live already",
+            Refusal::Full => "the subject's partition is full",
+            Refusal::OutputShort => "the output is shorter than the listing",
+        }
+    }
+}
+
+impl fmt::Display for Refusal {
+    fn fmt(&self, out: &mut fmt::Formatter<'_>) -> fmt::Result {
+        write!(out, "refused by {}: {}", self.number(), self.cause())
+    }
+}
+
+/// Why a typed call gives no result.
+#[derive(Clone, Copy, Debug, PartialEq, Eq, Hash)]
+pub enum Error {
+    /// The call was refused: its answer is the refusal's number, and count 0.
+    Refused(Refusal),
+    /// The answer is not one of those that this package knows: the archive is of another version.
+    Unexpected(Answer),
+    /// A line of a listing does not read as one: the archive is of another version.
+    Unreadable,
+}
+
+impl Error {
+    /// What the call answered, number and count; nothing for a line that does not read.
+    pub fn answer(self) -> Option<Answer> {
+        match self {
+            Error::Refused(refusal) => Some(Answer { number: refusal.number(), count: 0 }),
+            Error::Unexpected(answer) => Some(answer),
+            Error::Unreadable => None,
+        }
+    }
+}
+
+impl fmt::Display for Error {
+    fn fmt(&self, out: &mut fmt::Formatter<'_>) -> fmt::Result {
+        match self {
+            Error::Refused(refusal) => refusal.fmt(out),
+            Error::Unexpected(answer) => write!(out, "unexpected answer: number {}, count {}", answer.number, answer.count),
+            Error::Unreadable => write!(out, "a line of the listing does not read"),
+        }
+    }
+}
+
+impl std::error::Error for Error {}
+
+#[cfg(test)]
+mod tests {
+    use super::*;
+
+    #[test]
+    fn an_answer_has_one_outcome() {
+        assert_eq!(Answer { number: 0, count: 40 }.outcome(), Ok(40));
+        for (number, refusal) in (1..).zip(Refusal::ALL) {
+            let answer = Answer { number, count: 0 };
+            assert_eq!(answer.outcome(), Err(Error::Refused(refusal)));
+            assert_eq!(Error::Refused(refusal).answer(), Some(answer));
+        }
+    }
+
+    #[test]
+    fn an_unexpected_answer_is_kept_whole() {
+        for answer in
+            [Answer { number: 11, count: 0 }, Answer { number: 7, count: 1 }, Answer { number: u32::MAX, count: u64::MAX }]
+        {
+            assert_eq!(answer.outcome(), Err(Error::Unexpected(answer)));
+            assert_eq!(Error::Unexpected(answer).answer(), Some(answer));
+        }
+    }
+
+    #[test]
+    fn a_refusal_says_its_number() {
+        assert_eq!(Error::Refused(Refusal::Subject).to_string(), "refused by 2: the subject is no label");
+    }
+}

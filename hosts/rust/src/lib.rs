@@ -1,0 +1,74 @@
+//! The labelled dossier store, as a safe package over the archive `libdossier_c.a` (`rt staticlib dossier_c`).
+//!
+//! A [`Store`] is 41,088 bytes, owned or borrowed: 32 partitions, one for each [`Label`]. Subjects view and change one tree of
+//! elements, each under a label of their own; what a subject sees and is told owes nothing to subjects that he does not
+//! dominate. The calls themselves are proved; this package only passes bytes and numbers on and reads the answers.
+//!
+//! The typed calls are methods of [`Store`]. Below them, [`raw`] has the four calls on bytes of any length and on numbers of 32
+//! bits: no number is narrowed on its way, so that a subject of 287 is refused by 2 and a kind of 256 by 5.
+//!
+//! The borrow checker keeps what the calls ask of a host: a buffer that is written does not overlap another one, and nobody else
+//! writes a lent buffer until the call returns.
+//!
+//! # Example
+//!
+//! A subject of label 0 inserts a style and a subject of label 16 a measure under it; 0 deletes the style, and 16 still sees it,
+//! marked as removed, above his measure.
+//!
+//! ```
+//! use dossier::{Error, Label, Level, Line, Mark, Path, Refusal, Store, Value};
+//!
+//! # fn main() -> Result<(), Error> {
+//! let open = Label::new(Level::Open, &[]);
+//! let house = Label::new(Level::House, &[]);
+//! let style = Path::root().child(10, open);
+//! let sleeve = style.child(20, house);
+//!
+//! let mut store = Store::empty();
+//! store.insert(open, &style, Value::Group)?;
+//! store.insert(house, &sleeve, Value::Measure(-150))?;
+//! assert_eq!(store.delete(open, &style)?, 1);
+//!
+//! let mut output = [0; 40];
+//! let view = store.view(house, &Path::root(), &mut output)?;
+//! assert_eq!(view.listing(), b"VIEW\t16\t2\n1\t10\t0\tR\t-\t-\n2\t20\t16\tP\tM\t-150\n");
+//! let lines = view.lines().collect::<Result<Vec<Line>, Error>>()?;
+//! assert_eq!(lines[0], Line { depth: 1, name: 10, label: open, mark: Mark::Removed });
+//! assert_eq!(lines[1], Line { depth: 2, name: 20, label: house, mark: Mark::Live(Value::Measure(-150)) });
+//!
+//! // A refusal has a number and changes nothing.
+//! let refused = store.delete(open, &style);
+//! assert_eq!(refused, Err(Error::Refused(Refusal::Absent)));
+//! assert_eq!(Refusal::Absent.number(), 7);
+//! # Ok(())
+//! # }
+//! ```
+#![deny(missing_docs)]
+
+#[cfg(not(target_pointer_width = "64"))]
+compile_error!("the dossier calls take lengths of 64 bits");
+
+mod answer;
+mod label;
+mod listing;
+mod path;
+pub mod raw;
+mod store;
+mod value;
+
+pub use answer::{Answer, Error, Refusal};
+pub use label::{Compartment, Label, Level};
+pub use listing::{Line, Lines, Mark, View};
+pub use path::Path;
+pub use store::Store;
+pub use value::{Kind, Value};
+
+/// How many bytes a store has.
+pub const STORE_BYTES: usize = 41_088;
+
+/// How many bytes a partition has; the one of label n starts at n times this.
+pub const PARTITION_BYTES: usize = 1_284;
+
+/// No listing has more bytes: at most 1,024 lines of live elements, 5,120 of removed ones and the first. An output of this
+/// length is never refused by 10.
+pub const LISTING_BYTES_MAX: usize = 119_821;

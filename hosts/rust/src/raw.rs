@@ -1,0 +1,91 @@
+//! The four calls on lent bytes, of any length, and on numbers of 32 bits, which reach the library as they are.
+//!
+//! Each is safe for every input: the library refuses what it does not allow. `include/dossier.h` says what the calls do.
+
+use crate::answer::Answer;
+
+mod exported {
+    use crate::answer::Answer;
+
+    extern "C" {
+        pub fn dossier_view(
+            store: *const u8,
+            store_length: usize,
+            subject: u32,
+            path: *const u8,
+            path_length: usize,
+            output: *mut u8,
+            output_length: usize,
+        ) -> Answer;
+        pub fn dossier_insert(
+            store: *mut u8,
+            store_length: usize,
+            subject: u32,
+            path: *const u8,
+            path_length: usize,
+            kind: u32,
+            value: *const u8,
+            value_length: usize,
+        ) -> Answer;
+        pub fn dossier_update(
+            store: *mut u8,
+            store_length: usize,
+            subject: u32,
+            path: *const u8,
+            path_length: usize,
+            kind: u32,
+            value: *const u8,
+            value_length: usize,
+        ) -> Answer;
+        pub fn dossier_delete(store: *mut u8, store_length: usize, subject: u32, path: *const u8, path_length: usize) -> Answer;
+    }
+}
+
+/// Lists the path and everything in the subject's view below it into the output. Count: the bytes written; those behind them
+/// keep their contents.
+pub fn view(store: &[u8], subject: u32, path: &[u8], output: &mut [u8]) -> Answer {
+    // SAFETY: each pointer reaches as many bytes as its length says; the output overlaps nothing, being a `&mut`.
+    unsafe {
+        exported::dossier_view(store.as_ptr(), store.len(), subject, path.as_ptr(), path.len(), output.as_mut_ptr(), output.len())
+    }
+}
+
+/// Makes one live element with a value, in the subject's partition. Count: 0.
+pub fn insert(store: &mut [u8], subject: u32, path: &[u8], kind: u32, value: &[u8]) -> Answer {
+    // SAFETY: each pointer reaches as many bytes as its length says; the store overlaps nothing, being a `&mut`.
+    unsafe {
+        exported::dossier_insert(
+            store.as_mut_ptr(),
+            store.len(),
+            subject,
+            path.as_ptr(),
+            path.len(),
+            kind,
+            value.as_ptr(),
+            value.len(),
+        )
+    }
+}
+
+/// Deletes as [`delete`] does and puts the element back with another value. Count: how many elements were taken.
+pub fn update(store: &mut [u8], subject: u32, path: &[u8], kind: u32, value: &[u8]) -> Answer {
+    // SAFETY: each pointer reaches as many bytes as its length says; the store overlaps nothing, being a `&mut`.
+    unsafe {
+        exported::dossier_update(
+            store.as_mut_ptr(),
+            store.len(),
+            subject,
+            path.as_ptr(),
+            path.len(),
+            kind,
+            value.as_ptr(),
+            value.len(),
+        )
+    }
+}
+
+/// Deletes the element and every live element below it of the same label. Count: how many were taken.
+pub fn delete(store: &mut [u8], subject: u32, path: &[u8]) -> Answer {
+    // SAFETY: each pointer reaches as many bytes as its length says; the store overlaps nothing, being a `&mut`.
+    unsafe { exported::dossier_delete(store.as_mut_ptr(), store.len(), subject, path.as_ptr(), path.len()) }
+}

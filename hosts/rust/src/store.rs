@@ -1,0 +1,94 @@
+//! The store and its typed calls.
+
+use crate::answer::Error;
+use crate::label::Label;
+use crate::listing::View;
+use crate::path::Path;
+use crate::value::Value;
+use crate::{raw, STORE_BYTES};
+
+/// Where a store's bytes are.
+enum Bytes<'a> {
+    Owned(Box<[u8; STORE_BYTES]>),
+    Borrowed(&'a mut [u8]),
+}
+
+/// A store: its own bytes, or borrowed ones of any contents and length.
+///
+/// Borrowed bytes of another length than [`STORE_BYTES`] make every call refuse by 1.
+pub struct Store<'a> {
+    bytes: Bytes<'a>,
+}
+
+impl Store<'static> {
+    /// An empty store.
+    pub fn empty() -> Store<'static> {
+        Store::from(Box::new([0; STORE_BYTES]))
+    }
+}
+
+impl Default for Store<'static> {
+    fn default() -> Store<'static> {
+        Store::empty()
+    }
+}
+
+impl From<Box<[u8; STORE_BYTES]>> for Store<'static> {
+    fn from(bytes: Box<[u8; STORE_BYTES]>) -> Store<'static> {
+        Store { bytes: Bytes::Owned(bytes) }
+    }
+}
+
+impl<'a> From<&'a mut [u8]> for Store<'a> {
+    fn from(bytes: &'a mut [u8]) -> Store<'a> {
+        Store { bytes: Bytes::Borrowed(bytes) }
+    }
+}
+
+impl Store<'_> {
+    /// The store's bytes.
+    pub fn as_bytes(&self) -> &[u8] {
+        match &self.bytes {
+            Bytes::Owned(bytes) => &bytes[..],
+            Bytes::Borrowed(bytes) => bytes,
+        }
+    }
+
+    /// The store's bytes, to be written: any bytes will do, and the calls refuse what is not well formed.
+    pub fn as_mut_bytes(&mut self) -> &mut [u8] {
+        match &mut self.bytes {
+            Bytes::Owned(bytes) => &mut bytes[..],
+            Bytes::Borrowed(bytes) => bytes,
+        }
+    }
+
+    /// Lists the path and everything in the subject's view below it into the output, whose bytes behind the listing keep their
+    /// contents. An output of [`LISTING_BYTES_MAX`](crate::LISTING_BYTES_MAX) bytes is long enough for every listing.
+    pub fn view<'o>(&self, subject: Label, path: &Path, output: &'o mut [u8]) -> Result<View<'o>, Error> {
+        let answer = raw::view(self.as_bytes(), subject.number(), path.as_bytes(), output);
+        let count = answer.outcome()?;
+        View::of(output, count).ok_or(Error::Unexpected(answer))
+    }
+
+    /// Makes one live element with a value; its parent must be in view, be it removed. The count: 0.
+    pub fn insert(&mut self, subject: Label, path: &Path, value: Value<'_>) -> Result<u64, Error> {
+        let bytes = self.as_mut_bytes();
+        let answer =
+            value.with_bytes(|brought| raw::insert(bytes, subject.number(), path.as_bytes(), value.kind().number(), brought));
+        answer.outcome()
+    }
+
+    /// Deletes as [`delete`](Store::delete) does and puts the element back with another value. The count: how many elements were
+    /// taken.
+    pub fn update(&mut self, subject: Label, path: &Path, value: Value<'_>) -> Result<u64, Error> {
+        let bytes = self.as_mut_bytes();
+        let answer =
+            value.with_bytes(|brought| raw::update(bytes, subject.number(), path.as_bytes(), value.kind().number(), brought));
+        answer.outcome()
+    }
+
+    /// Deletes the element and every live element below it of the same label. The count: how many elements were taken.
+    pub fn delete(&mut self, subject: Label, path: &Path) -> Result<u64, Error> {
+        raw::delete(self.as_mut_bytes(), subject.number(), path.as_bytes()).outcome()
+    }
+}

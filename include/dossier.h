@@ -1,0 +1,149 @@
+/* The labelled dossier store: its calls for C and C++.
+ *
+ * Link with target/staticlib/libdossier_c.a, which `rt staticlib dossier_c` builds. It needs memmove and memset of the C
+ * library and nothing else. It keeps nothing between calls, allocates nothing and starts no thread.
+ *
+ * THE STORE is 41,088 bytes that the caller owns and lends for one call at a time: 32 partitions of 1,284 bytes, one for each
+ * label. An empty store is all zero; no call is needed to make one, and a store may be kept or moved by copying its bytes. Of
+ * any other bytes, and of any length, a call answers a number and does nothing undefined.
+ *
+ * A LABEL is a number 0 to 31: level x 8 + compartments. The level is 0 open, 1 trade, 2 house or 3 sealed; the compartments
+ * are a sum of 1 sizing, 2 fabric and 4 cost. A label dominates another if its level is at least the other's and its
+ * compartments include the other's.
+ *
+ * A SUBJECT is the label under which a call is made. Pass the number as it is: 287 or 4294967295 is no label and is refused
+ * by 2. Cut down to eight bits before the call it would be another subject's.
+ *
+ * A PATH is three bytes a step: the name (1 to 65535), lowest byte first, then the label. It has one to six steps, each label
+ * dominating the one before; the last label is the element's. The path of no bytes is the root, which only a view takes.
+ *
+ * A VALUE is a kind and bytes. Kind 0, a group: no bytes. Kind 1, a measure: four bytes, a signed number of hundredths of a
+ * millimetre, lowest byte first. Kind 2, a text: 1 to 16 bytes, each 32 to 126. Pass the kind as it is, too: 256 is refused by 5.
+ *
+ * An element is LIVE from its insert until it is deleted. A path in view that is not live is REMOVED: something live that the
+ * subject may see still stands below it.
+ *
+ * WHAT A HOST MUST NOT DO. The promises are proved of the library and hold for a caller that keeps to this:
+ *
+ *   - A pointer reaches as many bytes as its length says. It is not NULL, not even where the length is 0: lend the address of
+ *     any byte then; nothing is read or written there.
+ *   - A buffer that is written (the store of an insert, an update or a delete; the output of a view) does not overlap another
+ *     buffer of the same call. Buffers that are only read may overlap.
+ *   - Until a call returns, no other thread, signal handler or device writes a buffer that it was lent, or reads one that it
+ *     writes. So two calls on one store run at the same time only if both are views. The library has no lock of its own.
+ *   - The functions are declared as below, with nothing narrower.
+ *
+ * A view takes about 6 KB of stack on x86-64, the other calls less than 1 KB. No call blocks.
+ */
+#ifndef DOSSIER_H
+#define DOSSIER_H
+
+#include <stddef.h>
+#include <stdint.h>
+
+#if SIZE_MAX != UINT64_MAX
+#error "the dossier calls take lengths of 64 bits"
+#endif
+
+#ifdef __cplusplus
+extern "C" {
+#endif
+
+/* How many bytes a store has. */
+#define DOSSIER_STORE_BYTES 41088
+
+/* How many bytes a partition has; the one of label n starts at n times this. */
+#define DOSSIER_PARTITION_BYTES 1284
+
+/* No listing has more bytes: at most 1,024 lines of live elements, 5,120 of removed ones and the first. An output of this
+ * length is never refused by 10. */
+#define DOSSIER_LISTING_BYTES_MAX 119821
+
+/* The level of a label. */
+enum {
+    DOSSIER_LEVEL_OPEN = 0,
+    DOSSIER_LEVEL_TRADE = 1,
+    DOSSIER_LEVEL_HOUSE = 2,
+    DOSSIER_LEVEL_SEALED = 3
+};
+
+/* The compartments of a label, to be added up. */
+enum {
+    DOSSIER_COMPARTMENT_SIZING = 1,
+    DOSSIER_COMPARTMENT_FABRIC = 2,
+    DOSSIER_COMPARTMENT_COST = 4
+};
+
+/* The label of a level and a sum of compartments. */
+#define DOSSIER_LABEL(level, compartments) ((level) * 8 + (compartments))
+
+/* The kind of a value. */
+enum {
+    DOSSIER_KIND_GROUP = 0,
+    DOSSIER_KIND_MEASURE = 1,
+    DOSSIER_KIND_TEXT = 2
+};
+
+/* The number of an answer: 0, or the first cause in this order that applies. After a refusal the count is 0, and the store and
+ * the output hold the bytes that they held before. */
+enum {
+    /* The call is done. */
+    DOSSIER_DONE = 0,
+    /* The store is not 41,088 bytes long. */
+    DOSSIER_REFUSED_STORE_LENGTH = 1,
+    /* The subject is no label: over 31. */
+    DOSSIER_REFUSED_SUBJECT = 2,
+    /* A partition that the subject dominates is not well formed. Others are not read. */
+    DOSSIER_REFUSED_NOT_WELL_FORMED = 3,
+    /* The path's length is no multiple of 3, it has over six steps, or none in a call that is not a view; or a name is 0, a
+     * label over 31, or a label does not dominate the one before. */
+    DOSSIER_REFUSED_PATH = 4,
+    /* Insert, update: the kind is over 2, or the value's length or bytes are not those of its kind. */
+    DOSSIER_REFUSED_VALUE = 5,
+    /* Insert, update, delete: the path's last label is not the subject's. */
+    DOSSIER_REFUSED_OTHER_LABEL = 6,
+    /* View: the path is not in view. Insert: the parent is not in view. Update, delete: the element is not live. */
+    DOSSIER_REFUSED_ABSENT = 7,
+    /* Insert: the element is live. */
+    DOSSIER_REFUSED_LIVE = 8,
+    /* Insert: the subject's partition holds 32 elements. */
+    DOSSIER_REFUSED_FULL = 9,
+    /* View: the output is shorter than the listing. */
+    DOSSIER_REFUSED_OUTPUT_SHORT = 10
+};
+
+/* What a call answers, returned by value: its number, and its count (what it counts stands at each call). */
+struct dossier_answer {
+    uint32_t number;
+    uint64_t count;
+};
+
+/* Lists the path, unless it is empty, and everything in the subject's view below it, in path order, into the output.
+ * Count: the bytes written. The bytes of the output behind them keep their contents. The store is only read.
+ *
+ * Fields are parted by one tab, and each line ends with byte 10; no byte 0 is written. The first line: VIEW, the subject, how
+ * many lines follow. Each further line: the depth (steps of the whole path), the last step's name and label, P (live) or R
+ * (removed), the kind (G, M, T, or - if removed), and the value: a measure in decimal, a text as it is, else -. */
+struct dossier_answer dossier_view(const uint8_t *store, size_t store_length, uint32_t subject, const uint8_t *path,
+                                   size_t path_length, uint8_t *output, size_t output_length);
+
+/* Makes one live element with a value. Its parent must be in view; a removed one will do. Count: 0.
+ * Only the subject's partition is written. */
+struct dossier_answer dossier_insert(uint8_t *store, size_t store_length, uint32_t subject, const uint8_t *path,
+                                     size_t path_length, uint32_t kind, const uint8_t *value, size_t value_length);
+
+/* Deletes a live element with all below it of the same label, and puts the element back with another value.
+ * Count: how many elements were taken, the element itself included. Only the subject's partition is written. */
+struct dossier_answer dossier_update(uint8_t *store, size_t store_length, uint32_t subject, const uint8_t *path,
+                                     size_t path_length, uint32_t kind, const uint8_t *value, size_t value_length);
+
+/* Deletes a live element and every live element below it of the same label; elements of other labels below it stay.
+ * Count: how many elements were taken. Only the subject's partition is written. */
+struct dossier_answer dossier_delete(uint8_t *store, size_t store_length, uint32_t subject, const uint8_t *path,
+                                     size_t path_length);
+
+#ifdef __cplusplus
+}
+#endif
+
+#endif
