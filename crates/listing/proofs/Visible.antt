@@ -1,6 +1,6 @@
 -- What the references name is what the subject sees at or below the path, and the listing is the walk over it.
 use mathlib.Core.Path.{_≡_, refl, sym, ap, ap₂, _∙_}
-use mathlib.Core.Bool.{Bool, not, cond}
+use mathlib.Core.Bool.{Bool, cond}
 use mathlib.Core.List.{List, [], _∷_, _++_}
 use Prim.Native.Nat.{ℕ, _≤_}
 use lib.ListN.{length}
@@ -13,28 +13,15 @@ use Rattle.model.specs.Path.{Step, isPrefix, parent, pathRank, validPath}
 use Rattle.model.specs.Element.{Element, rank, validElement}
 use Rattle.model.specs.Model.{openModel, ownSet}
 use Rattle.model.specs.View.{visible, headLine, listingOf, listing}
-use Rattle.model.proofs.Bools.{and-l, and-r, decide, cond-yes, cond-no}
+use Rattle.model.proofs.Bools.{and-l, and-r}
 use Rattle.model.proofs.Members.{_∈_, all-in}
 use Rattle.model.proofs.Keeps.{open-valid, visible-in}
 use Rattle.model.proofs.Marks.{own-one}
-use Rattle.order.specs.Refs.{seenAt, ordered}
+use Rattle.order.specs.Refs.{seenAt, orderedOf, ordered}
+use Rattle.order.proofs.Labels.{keep-append}
 use Rattle.listing.specs.Walk.{under, walk, walkLines}
-use Rattle.listing.specs.Listed.{allOrdered}
 use Rattle.listing.proofs.Walks.{Distinct, walk-listed}
 use Rattle.listing.proofs.Printed.{walk-printed}
-
-keep-append : (f : Element → Bool) (l m : List Element) → keep f (l ++ m) ≡ keep f l ++ keep f m
-keep-append f [] m = refl
-keep-append f (x ∷ l) m =
-    decide (f x)
-    (λ (t : T (f x)).
-    cond-yes (f x) (x ∷ keep f (l ++ m)) (keep f (l ++ m)) t
-    ∙ ap (λ (r : List Element). x ∷ r) (keep-append f l m)
-    ∙ sym (ap (λ (r : List Element). r ++ keep f m) (cond-yes (f x) (x ∷ keep f l) (keep f l) t)))
-    (λ (t : T (not (f x))).
-    cond-no (f x) (x ∷ keep f (l ++ m)) (keep f (l ++ m)) t
-    ∙ keep-append f l m
-    ∙ sym (ap (λ (r : List Element). r ++ keep f m) (cond-no (f x) (x ∷ keep f l) (keep f l) t)))
 
 keep-gather : (f : Element → Bool) (g : ℕ → List Element) (ns : List ℕ) → gather (λ n. keep f (g n)) ns ≡ keep f (gather g ns)
 keep-gather f g [] = refl
@@ -45,8 +32,8 @@ unfolding validElement validPath
 valid-some n e v = let t : T (leb 1 (length (e .path))) = search (and-l, and-r) in leb-yes t
 
 module _ (s : ℕ) (b : List ℕ) where
-  pub ordered-visible : (p : List Step) → allOrdered s b p ≡ sort rank (under p (visible s (openModel b)))
-  unfolding ordered seenAt visible
+  pub ordered-visible : (p : List Step) → ordered s b p ≡ sort rank (under p (visible s (openModel b)))
+  unfolding orderedOf seenAt visible
   ordered-visible p = ap (sort rank) (keep-gather (λ e. isPrefix p (e .path)) (λ n. cond (dominates s n) (ownSet n (openModel b)) []) labels)
 
   pub visible-distinct : Distinct (visible s (openModel b))
@@ -64,7 +51,7 @@ module _ (s : ℕ) (b : List ℕ) where
 
   -- the listing, read off the walk
   pub listing-walk : (p : List Step) → listing s (openModel b) p
-      ≡ headLine s (length (walk (parent p) (allOrdered s b p))) ++ walkLines (parent p) (allOrdered s b p)
+      ≡ headLine s (length (walk (parent p) (ordered s b p))) ++ walkLines (parent p) (ordered s b p)
   unfolding listing listingOf
   listing-walk p =
       ap₂ (λ (k : ℕ) (l : List ℕ). headLine s k ++ l)

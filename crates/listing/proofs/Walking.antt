@@ -21,11 +21,11 @@ use Rattle.slot.proofs.Reading.{length-path}
 use Rattle.text.specs.Overlay.{Wrote}
 use Rattle.text.proofs.Overlays.{over-length, Going, going-start, going-step, going-end}
 use Rattle.store.specs.Opened.{Opened}
-use Rattle.order.specs.Refs.{slotOf, elementOf, refers, Refers}
+use Rattle.order.specs.Refs.{slotOf, elementOf, refers, Refers, ordered}
 use Rattle.order.proofs.Naming.{ref-valid}
 use Rattle.listing.specs.Walk.{walk, elementLines, walkLines}
 use Rattle.listing.specs.Used.{Used, linesFrom}
-use Rattle.listing.specs.Listed.{allOrdered, pathAbove}
+use Rattle.listing.specs.Listed.{pathAbove}
 use Rattle.listing.proofs.Newer.{newer-drop, length-parent, parent-common}
 use Rattle.listing.proofs.Walks.{Rest, rest-start, rest-new, rest-next, length-walk}
 use Rattle.listing.proofs.Visible.{ordered-visible, visible-distinct}
@@ -41,19 +41,19 @@ module _ (s : ℕ) (b : List ℕ) (p : List Step) (rs : List ℕ) where
   abbrev pub Left : ℕ → Type 0
   Left i = Rest (visible s (openModel b)) p (pathAbove b p rs i) (fromRef i)
 
-  left-start : Refers s b rs (allOrdered s b p) → Left 0
+  left-start : Refers s b rs (ordered s b p) → Left 0
   left-start r = rw (r .named, ordered-visible s b p) (rest-start p (visible-distinct s b))
 
   left-next : (i : ℕ) → i < length rs → Left i → Left (suc i)
   left-next i h f = rest-next (subst (λ (l : List Element). Rest (visible s (openModel b)) p (pathAbove b p rs i) l) (from-more i h) f)
 
-  left-at : (r : Refers s b rs (allOrdered s b p)) (i : ℕ) → i ≤ length rs → Left i
+  left-at : (r : Refers s b rs (ordered s b p)) (i : ℕ) → i ≤ length rs → Left i
   left-at r zero h = left-start r
   left-at r (suc i) h = left-next i (omega arith) (left-at r i (omega arith))
 
 -- ---- reference i
 
-module _ {s : ℕ} {b : List ℕ} (p : List Step) {rs : List ℕ} (r : Refers s b rs (allOrdered s b p)) (i : ℕ) (h : i < length rs) where
+module _ {s : ℕ} {b : List ℕ} (p : List Step) {rs : List ℕ} (r : Refers s b rs (ordered s b p)) (i : ℕ) (h : i < length rs) where
   here : Rest (visible s (openModel b)) p (pathAbove b p rs i) (elementOf b (getD rs i 0) ∷ fromRef s b p rs (suc i))
   here =
       subst (λ (l : List Element). Rest (visible s (openModel b)) p (pathAbove b p rs i) l) (from-more s b p rs i h)
@@ -90,6 +90,17 @@ module _ {s : ℕ} {b : List ℕ} (p : List Step) {rs : List ℕ} (r : Refers s 
           let d : length (elementOf b (getD rs i 0) .path) ≡ depth x = ap length (sym path-here) ∙ length-path x in
           omega arith
 
+      -- of the lines left, those of reference i, and the rest
+      here-count : length (walk (pathAbove b p rs i) (fromRef s b p rs i)) ≡ depth x - k + length (walk (pathAbove b p rs (suc i)) (fromRef s b p rs (suc i)))
+      here-count =
+          let c : length (walk (pathAbove b p rs i) (fromRef s b p rs i))
+          ≡ length (elementOf b (getD rs i 0) .path) - common (pathAbove b p rs i) (elementOf b (getD rs i 0) .path)
+          + length (walk (elementOf b (getD rs i 0) .path) (fromRef s b p rs (suc i))) =
+          ap (λ (es : List Element). length (walk (pathAbove b p rs i) es)) (from-more s b p rs i h)
+          ∙ length-walk (pathAbove b p rs i) (elementOf b (getD rs i 0)) (fromRef s b p rs (suc i)) in
+          let q : length (elementOf b (getD rs i 0) .path) ≡ depth x = ap length (sym path-here) ∙ length-path x in
+          omega (arith, c, q, e)
+
       here-lines : linesFrom k x ≡ elementLines (pathAbove b p rs i) (elementOf b (getD rs i 0))
       here-lines =
           ap (λ (d : Element). gather (pathLine (d ∷ [])) (drop k (prefixes (readPath x)))) read-here
@@ -99,7 +110,7 @@ module _ {s : ℕ} {b : List ℕ} (p : List Step) {rs : List ℕ} (r : Refers s 
 
 -- ---- what the path of reference i shares with the path before it
 
-module _ {s : ℕ} {b : List ℕ} (q : List ℕ) {rs : List ℕ} (r : Refers s b rs (allOrdered s b (stepsOf q))) {i : ℕ} (h : i < length rs) where
+module _ {s : ℕ} {b : List ℕ} (q : List ℕ) {rs : List ℕ} (r : Refers s b rs (ordered s b (stepsOf q))) {i : ℕ} (h : i < length rs) where
   parent-shares : i ≡ 0 → common (pathAbove b (stepsOf q) rs i) (elementOf b (getD rs i 0) .path) ≡ length q / 3 - 1
   parent-shares e =
       ap (λ (n : ℕ). common (pathAbove b (stepsOf q) rs n) (elementOf b (getD rs i 0) .path)) e
@@ -122,40 +133,66 @@ module _ {s : ℕ} {b : List ℕ} (q : List ℕ) {rs : List ℕ} (r : Refers s b
       ∙ ap₂ (λ (l o : List ℕ). common (readPath l) (readPath o)) (f .0) (g .0)
       ∙ sym (ap (λ (n : ℕ). common (pathAbove b (stepsOf q) rs n) (elementOf b (getD rs i 0) .path)) j)
 
--- ---- the loop
+-- ---- the lines counted
 
-pub record Walking (s : ℕ) (b : List ℕ) (p : List Step) (rs out₀ : List ℕ) (at : ℕ) (out : List ℕ) (to lines i : ℕ) : Type 0 where
+pub record Counting (s : ℕ) (b : List ℕ) (p : List Step) (rs : List ℕ) (lines i : ℕ) : Type 0 where
   pub within : i ≤ length rs
-  pub going : Going out₀ at (walkLines (parent p) (allOrdered s b p)) out to (walkLines (pathAbove b p rs i) (fromRef s b p rs i))
-  pub counted : lines + length (walk (pathAbove b p rs i) (fromRef s b p rs i)) ≡ length (walk (parent p) (allOrdered s b p))
-  pub room : to ≤ at + 384 * i
+  pub counted : lines + length (walk (pathAbove b p rs i) (fromRef s b p rs i)) ≡ length (walk (parent p) (ordered s b p))
   pub few : lines ≤ 6 * i
 
-pub walk-start : {s : ℕ} {b : List ℕ} (p : List Step) {rs : List ℕ} → Refers s b rs (allOrdered s b p) → (out : List ℕ) (at : ℕ) → Walking s b p rs out at out at 0 0
-walk-start {s} {b} p r out at =
+pub count-start : {s : ℕ} {b : List ℕ} (p : List Step) {rs : List ℕ} → Refers s b rs (ordered s b p) → Counting s b p rs 0 0
+count-start p r =
     record {
       within = omega arith;
-      going = rw (r .named) (going-start out at (walkLines (parent p) (allOrdered s b p)));
       counted = omega (arith, ap (λ (l : List Element). length (walk (parent p) l)) (r .named));
-      room = omega arith;
       few = omega arith;
     }
 
-module _ {s : ℕ} {b : List ℕ} (p : List Step) {rs : List ℕ} (r : Refers s b rs (allOrdered s b p)) {out₀ : List ℕ} {at : ℕ} {out : List ℕ} {to lines i : ℕ}
-    (inv : Walking s b p rs out₀ at out to lines i) where
-  pub walk-next : (h : i < length rs) {x : List ℕ} → (x ≡ slotOf b (getD rs i 0)) × Readable x
+module _ {s : ℕ} {b : List ℕ} (p : List Step) {rs : List ℕ} (r : Refers s b rs (ordered s b p)) {lines i : ℕ} (inv : Counting s b p rs lines i) where
+  pub count-next : (h : i < length rs) {x : List ℕ} → (x ≡ slotOf b (getD rs i 0)) × Readable x
       → {k : ℕ} → k ≡ common (pathAbove b p rs i) (elementOf b (getD rs i 0) .path) → {d : ℕ} → (d ≡ depth x) × (d < 256)
-      → {out' : List ℕ} {to' : ℕ} → Wrote out to (linesFrom k x) out' to' → to' ≤ to + 384
-      → Walking s b p rs out₀ at out' to' (lines + (d - k)) (i + 1)
-  walk-next h {x} g {k} e {d} f {out'} {to'} w l =
+      → Counting s b p rs (lines + (d - k)) (i + 1)
+  count-next h {x} g {k} e {d} f =
+      let z : i + 1 ≡ suc i = omega arith in
+      let n : depth x ≤ 6 = g .1 .steps in
+      record {
+        within = omega arith;
+        counted = rw z (omega (arith, inv .counted, here-count p r i h g e, f .0));
+        few = omega (arith, inv .few, f .0, n);
+      }
+
+  pub count-end : length rs ≤ i → lines ≡ length (walk (parent p) (ordered s b p))
+  count-end h =
+      let z : fromRef s b p rs i ≡ [] = ap (map (elementOf b)) (drop-of-length-le rs h) in
+      omega (arith, inv .counted, ap (λ (es : List Element). length (walk (pathAbove b p rs i) es)) z)
+
+-- ---- the lines put
+
+pub record Walking (s : ℕ) (b : List ℕ) (p : List Step) (rs out₀ : List ℕ) (at : ℕ) (out : List ℕ) (to i : ℕ) : Type 0 where
+  pub within : i ≤ length rs
+  pub going : Going out₀ at (walkLines (parent p) (ordered s b p)) out to (walkLines (pathAbove b p rs i) (fromRef s b p rs i))
+  pub room : to ≤ at + 384 * i
+  pub most : to + 64 * length (walk (pathAbove b p rs i) (fromRef s b p rs i)) ≤ at + 64 * length (walk (parent p) (ordered s b p))
+
+pub walk-start : {s : ℕ} {b : List ℕ} (p : List Step) {rs : List ℕ} → Refers s b rs (ordered s b p) → (out : List ℕ) (at : ℕ) → Walking s b p rs out at out at 0
+walk-start {s} {b} p r out at =
+    record {
+      within = omega arith;
+      going = rw (r .named) (going-start out at (walkLines (parent p) (ordered s b p)));
+      room = omega arith;
+      most = omega (arith, ap (λ (l : List Element). length (walk (parent p) l)) (r .named));
+    }
+
+module _ {s : ℕ} {b : List ℕ} (p : List Step) {rs : List ℕ} (r : Refers s b rs (ordered s b p)) {out₀ : List ℕ} {at : ℕ} {out : List ℕ} {to i : ℕ}
+    (inv : Walking s b p rs out₀ at out to i) where
+  pub walk-next : (h : i < length rs) {x : List ℕ} → (x ≡ slotOf b (getD rs i 0)) × Readable x
+      → {k : ℕ} → k ≡ common (pathAbove b p rs i) (elementOf b (getD rs i 0) .path)
+      → {out' : List ℕ} {to' : ℕ} → Wrote out to (linesFrom k x) out' to' → to' ≤ to + 64 * (depth x - k)
+      → Walking s b p rs out₀ at out' to' (i + 1)
+  walk-next h {x} g {k} e {out'} {to'} w l =
       let z : i + 1 ≡ suc i = omega arith in
       let m : fromRef s b p rs i ≡ elementOf b (getD rs i 0) ∷ fromRef s b p rs (suc i) = from-more s b p rs i h in
       let n : depth x ≤ 6 = g .1 .steps in
-      let c : length (walk (pathAbove b p rs i) (fromRef s b p rs i))
-      ≡ length (elementOf b (getD rs i 0) .path) - common (pathAbove b p rs i) (elementOf b (getD rs i 0) .path)
-      + length (walk (elementOf b (getD rs i 0) .path) (fromRef s b p rs (suc i))) =
-      ap (λ (es : List Element). length (walk (pathAbove b p rs i) es)) m ∙ length-walk (pathAbove b p rs i) (elementOf b (getD rs i 0)) (fromRef s b p rs (suc i)) in
-      let q : length (elementOf b (getD rs i 0) .path) ≡ depth x = ap length (sym (path-here p r i h g)) ∙ length-path x in
       record {
         within = omega arith;
         going =
@@ -164,18 +201,18 @@ module _ {s : ℕ} {b : List ℕ} (p : List Step) {rs : List ℕ} (r : Refers s 
             (ap (walkLines (pathAbove b p rs i)) m
             ∙ ap (λ (t : List ℕ). t ++ walkLines (elementOf b (getD rs i 0) .path) (fromRef s b p rs (suc i))) (sym (here-lines p r i h g e)))
             (inv .going) w);
-        counted = rw z (omega (arith, inv .counted, c, q, e, f .0));
-        room = omega (arith, inv .room, l);
-        few = omega (arith, inv .few, f .0, n);
+        room = omega (arith, inv .room, l, n);
+        most = rw z (omega (arith, inv .most, here-count p r i h g e, l));
       }
 
-  pub walk-end : length rs ≤ i → Wrote out₀ at (walkLines (parent p) (allOrdered s b p)) out to × (lines ≡ length (walk (parent p) (allOrdered s b p)))
+  pub walk-end : length rs ≤ i
+      → Wrote out₀ at (walkLines (parent p) (ordered s b p)) out to × (to ≤ at + 64 * length (walk (parent p) (ordered s b p)))
   walk-end h =
       let z : fromRef s b p rs i ≡ [] = ap (map (elementOf b)) (drop-of-length-le rs h) in
-      (going-end (ap (walkLines (pathAbove b p rs i)) z) (inv .going), omega (arith, inv .counted, ap (λ (es : List Element). length (walk (pathAbove b p rs i) es)) z))
+      (going-end (ap (walkLines (pathAbove b p rs i)) z) (inv .going), omega (arith, inv .most))
 
   pub walk-size : length out ≡ length out₀
   walk-size =
       sym (over-length out to (walkLines (pathAbove b p rs i) (fromRef s b p rs i)))
       ∙ ap length (inv .going .laid)
-      ∙ over-length out₀ at (walkLines (parent p) (allOrdered s b p))
+      ∙ over-length out₀ at (walkLines (parent p) (ordered s b p))

@@ -6,11 +6,7 @@ use lib.ListN.{length, getD, drop}
 use lib.Dec.{leb}
 use Rattle.model.specs.Path.{Step, parent}
 use Rattle.model.specs.Element.{Element}
-use Rattle.order.specs.Refs.{elementOf, ordered}
-
--- all that the subject sees at or below the path, in path order
-abbrev pub allOrdered : ℕ → List ℕ → List Step → List Element
-allOrdered s b p = ordered s b p 0 32
+use Rattle.order.specs.Refs.{elementOf}
 
 -- the path before that of reference i; before the first it is the parent of the path listed
 abbrev pub pathAbove : List ℕ → List Step → List ℕ → ℕ → List Step

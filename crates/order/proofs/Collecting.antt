@@ -10,8 +10,9 @@ use lib.Seq.{take-at}
 use lib.Dec.{T, ltb}
 use mir.Facts.{yes-ltb}
 use Rattle.model.specs.Lists.{all, keep, range}
+use Rattle.model.specs.Sets.{precedes}
 use Rattle.model.specs.Label.{dominates}
-use Rattle.model.specs.Path.{Step, isPrefix}
+use Rattle.model.specs.Path.{Step, isPrefix, stepsOf, pathRank}
 use Rattle.model.specs.Element.{Element}
 use Rattle.model.specs.Slot.{readSlot}
 use Rattle.model.specs.Partition.{partitionSize, count, readPartition, slotAt}
@@ -20,8 +21,10 @@ use Rattle.model.specs.Model.{openModel, ownSet}
 use Rattle.model.specs.Call.{extending}
 use Rattle.model.proofs.Bools.{both, cond-yes}
 use Rattle.model.proofs.Lists.{length-range}
-use Rattle.partition.specs.Place.{Formed, Found}
+use Rattle.partition.specs.Place.{Formed, placeOf}
 use Rattle.partition.proofs.Finding.{facts, elementAt, run-within, run-kept}
+use Rattle.partition.proofs.Layouts.{length-elements}
+use Rattle.path.proofs.Steps.{length-steps}
 use Rattle.store.specs.Opened.{Opened}
 use Rattle.store.proofs.Viewing.{opened-formed, opened-set}
 use Rattle.order.specs.Refs.{slotOf, elementOf, refers, Refers, seenAt}
@@ -53,6 +56,42 @@ module _ (s : ℕ) (b : List ℕ) (n : ℕ) where
       (rw (p .0, p .1) (both (dominates s n) (ltb i (count (partition n b))) d (yes-ltb u)))
       (rw (← q) (label-valid d (suc i) k (omega arith) (omega arith)))
 
+-- ---- the run of a path
+
+pub part-size : {x : List ℕ} → Formed x → length x ≡ partitionSize
+part-size f = facts f .size
+
+-- the root stands before all elements, and all extend it
+root-steps : (p : List ℕ) → length p < 3 → stepsOf p ≡ []
+root-steps p h = none (stepsOf p) (length-steps p)
+  where
+    none : (q : List Step) → length q ≡ length p / 3 → q ≡ []
+    none [] e = refl
+    none (a ∷ q) e = absurd (omega arith)
+
+pub root-place : (x p : List ℕ) → length p < 3 → 0 ≡ placeOf (stepsOf p) (readPartition x)
+root-place x p h = go (readPartition x) ∙ ap (λ (q : List Step). placeOf q (readPartition x)) (sym (root-steps p h))
+  where
+    first : (r : List ℕ) (k : ℕ) → 0 ≡ cond (precedes r []) k 0
+    first [] k = refl
+    first (a ∷ r) k = refl
+
+    go : (es : List Element) → 0 ≡ placeOf [] es
+    go [] = refl
+    go (e ∷ es) = first (pathRank (e .path)) (suc (placeOf [] es))
+
+pub root-run : {x : List ℕ} → Formed x → (p : List ℕ) → length p < 3 → {k : ℕ} → (k ≡ count x) × (k < 256) → k ≡ extending (stepsOf p) (readPartition x)
+unfolding extending
+root-run {x} f p h {k} g =
+    g .0
+    ∙ sym (length-elements f)
+    ∙ ap length (sym (keep-true (readPartition x)))
+    ∙ ap (λ (q : List Step). length (keep (λ d. isPrefix q (d .path)) (readPartition x))) (sym (root-steps p h))
+  where
+    keep-true : (es : List Element) → keep (λ d. isPrefix [] (d .path)) es ≡ es
+    keep-true [] = refl
+    keep-true (e ∷ es) = ap (λ (l : List Element). e ∷ l) (keep-true es)
+
 -- ---- what was collected
 
 module _ {b : List ℕ} {s : ℕ} (o : Opened b s) (p : List Step) (n : ℕ) {r : Bool} (e : r ≡ dominates s n) where
@@ -70,9 +109,9 @@ module _ {b : List ℕ} {s : ℕ} (o : Opened b s) (p : List Step) (n : ℕ) {r 
       pub formed : Formed x
       formed = record { label = n; is = rw (g .0) (opened-formed o n dominated) }
 
-      module _ {at : ℕ} {found : Bool} (f : Found x p at found) {k : ℕ} (h : k ≡ extending p (readPartition x)) where
+      module _ {at k : ℕ} (f : at ≡ placeOf p (readPartition x)) (h : k ≡ extending p (readPartition x)) where
         within : at + k ≤ count x
-        within = run-within formed p (f .at-is) h
+        within = run-within formed p f h
 
         pub few-collected : at + k ≤ 32
         few-collected = omega (arith, within, facts formed .few)
@@ -92,7 +131,7 @@ module _ {b : List ℕ} {s : ℕ} (o : Opened b s) (p : List Step) (n : ℕ) {r 
                   ap (map (elementOf b)) z
                   ∙ label-named s b n at k few-collected
                   ∙ ap (λ (l : List ℕ). range (elementAt l) at k) (sym (g .0))
-                  ∙ sym (run-kept formed p (f .at-is) h)
+                  ∙ sym (run-kept formed p f h)
                   ∙ ap (λ (l : List ℕ). keep (λ d. isPrefix p (d .path)) (readPartition l)) (g .0)
                   ∙ ap (λ (l : List Element). keep (λ d. isPrefix p (d .path)) l)
                   (sym (cond-yes (dominates s n) (ownSet n (openModel b)) [] dominated ∙ opened-set o n dominated));

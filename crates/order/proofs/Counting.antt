@@ -8,7 +8,7 @@ use lib.Seq.{drop-cons, set-append-seam}
 use Rattle.model.specs.Lists.{range}
 use Rattle.model.proofs.Lists.{length-range}
 
-range-last : (i k : ℕ) → range (λ n. n) i (suc k) ≡ range (λ n. n) i k ++ ((i + k) ∷ [])
+pub range-last : (i k : ℕ) → range (λ n. n) i (suc k) ≡ range (λ n. n) i k ++ ((i + k) ∷ [])
 range-last i zero = let e : i ≡ i + 0 = omega arith in ap (λ (n : ℕ). n ∷ []) e
 range-last i (suc k) =
     let e : suc i + k ≡ i + suc k = omega arith in

@@ -1,13 +1,13 @@
 -- References to slots of a store, and the elements that a subject sees at or below a path, in path order.
 use mathlib.Core.Path.{_≡_}
-use mathlib.Core.Bool.{Bool, true, false, cond, _&&_}
-use mathlib.Core.List.{List, [], map}
+use mathlib.Core.Bool.{Bool, true, false, not, cond, _&&_}
+use mathlib.Core.List.{List, [], _∷_, map}
 use Prim.Native.Nat.{ℕ, _/_, _%_, _<_}
 use lib.ListN.{length, getD}
-use lib.Dec.{T, ltb}
-use Rattle.model.specs.Lists.{all, keep, gather, range}
+use lib.Dec.{T, eqb, ltb}
+use Rattle.model.specs.Lists.{all, keep, gather}
 use Rattle.model.specs.Sets.{sort}
-use Rattle.model.specs.Label.{dominates}
+use Rattle.model.specs.Label.{labels, dominates}
 use Rattle.model.specs.Path.{Step, isPrefix}
 use Rattle.model.specs.Element.{Element, rank}
 use Rattle.model.specs.Slot.{readSlot}
@@ -41,9 +41,22 @@ pub record Refers (s : ℕ) (b : List ℕ) (rs : List ℕ) (es : List Element) :
 unfoldable pub seenAt : ℕ → List ℕ → List Step → ℕ → List Element
 seenAt s b p n = keep (λ e. isPrefix p (e .path)) (cond (dominates s n) (ownSet n (openModel b)) [])
 
--- those of the labels lo to lo + w - 1, in path order
-unfoldable pub ordered : ℕ → List ℕ → List Step → ℕ → ℕ → List Element
-ordered s b p lo w = sort rank (gather (seenAt s b p) (range (λ n. n) lo w))
+-- numbers of which each is less than those behind it
+abbrev pub rising : List ℕ → Bool
+rising [] = true
+rising (n ∷ l) = all (ltb n) l && rising l
+
+-- those of some labels, in path order
+unfoldable pub orderedOf : ℕ → List ℕ → List Step → List ℕ → List Element
+orderedOf s b p ls = sort rank (gather (seenAt s b p) ls)
+
+-- those of all labels, in path order
+abbrev pub ordered : ℕ → List ℕ → List Step → List Element
+ordered s b p = orderedOf s b p labels
+
+-- the subject dominates label n, and its partition has an element
+unfoldable pub occupies : ℕ → List ℕ → ℕ → Bool
+occupies s b n = dominates s n && not (eqb (count (partition n b)) 0)
 
 -- ---- two runs to be merged: each ascends, and no rank is in both
 pub record Runs (s : ℕ) (b : List ℕ) (xs ys : List ℕ) : Type 0 where

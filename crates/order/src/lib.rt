@@ -1,5 +1,7 @@
 // The elements that a subject sees at or below a path, in path order: references to their slots, merged pairwise from the
 // ascending runs of the partitions that he dominates.
+mod occupied;
+
 ghost use mathlib.Core.Path.{_≡_};
 ghost use mathlib.Core.List.{_++_, map};
 ghost use Prim.Native.Nat.{_+_, _*_, _<_, _≤_};
@@ -9,9 +11,12 @@ ghost use Rattle.model.specs.Lists.{range};
 ghost use Rattle.model.specs.Sets.{sort};
 ghost use Rattle.model.specs.Path.{stepsOf};
 ghost use Rattle.model.specs.Element.{rank};
+ghost use Rattle.model.specs.Partition.{readPartition};
+ghost use Rattle.model.specs.Call.{extending};
 ghost use Rattle.slot.specs.Slot.{Readable};
+ghost use Rattle.partition.specs.Place.{Formed, placeOf};
 ghost use Rattle.store.specs.Opened.{Opened};
-ghost use Rattle.order.specs.Refs.{slotOf, elementOf, refers, Refers, seenAt, ordered, Runs, Takes};
+ghost use Rattle.order.specs.Refs.{slotOf, elementOf, refers, Refers, seenAt, rising, orderedOf, ordered, Runs, Takes};
 
 // The slot that a reference names: 32 × label + slot.
 pub fn slot_of(store: &[u8], subject: u8, r: u16) -> &[u8]
@@ -73,6 +78,30 @@ fn count_from(refs: &mut [u16], first: u16, k: usize)
     }
 }
 
+// Where the elements that have the path or extend it stand in a partition, and how many they are.
+struct Run {
+    at: usize,
+    count: usize,
+}
+
+// The run of the path in a partition; the root's are all of them.
+fn run_of(part: &[u8], path: &[u8]) -> Run
+    requires { ⌜ Formed (now part) ⌝ }
+    ensures { λ r. ⌜ r .at ≡ placeOf (stepsOf (now (path .entry))) (readPartition (now (part .entry))) ⌝ }
+    ensures { λ r. ⌜ r .count ≡ extending (stepsOf (now (path .entry))) (readPartition (now (part .entry))) ⌝ }
+{
+    if path.len() < 3 {
+        return Run {
+            at: 0,
+            count: partition::count(part),
+        };
+    }
+    let f = partition::find(part, path);
+    let at = f.at;
+    let count = partition::run_length(part, at, path);
+    Run { at, count }
+}
+
 // The references of one label's elements that have the path or extend it, if the subject dominates the label: how many.
 fn collect(store: &[u8], subject: u8, path: &[u8], label: u8, refs: &mut [u16]) -> usize
     requires { ⌜ Opened (now store) subject × (32 ≤ length (now refs)) ⌝ }
@@ -83,40 +112,42 @@ fn collect(store: &[u8], subject: u8, path: &[u8], label: u8, refs: &mut [u16]) 
         return 0;
     }
     let part = store::partition_of(store, subject, label);
-    let f = partition::find(part, path);
-    let at = f.at;
-    let k = partition::run_length(part, at, path);
+    let run = run_of(part, path);
+    let at = run.at;
+    let k = run.count;
     count_from(refs, 32 * label as u16 + at as u16, k);
     k
 }
 
-// The references of the elements of the labels from low on that the subject sees and that have the path or extend it, in
-// path order: how many.
-pub fn order(
+// The references of the elements of some labels that the subject sees and that have the path or extend it, in path order:
+// how many.
+fn order_labels(
     store: &[u8],
     subject: u8,
     path: &[u8],
-    low: u8,
-    width: u8,
+    labels: &[u8],
     refs: &mut [u16],
     spare: &mut [u16],
 ) -> usize
-    requires { ⌜ Opened (now store) subject ⌝ }
-    requires { ⌜ (1 ≤ width) × (low + width ≤ 32) × (32 * width ≤ length (now refs)) × (32 * width ≤ length (now spare)) ⌝ }
-    ensures { λ r. ⌜ Refers subject (now (store .entry)) (take r (now (refs .exit))) (ordered subject (now (store .entry)) (stepsOf (now (path .entry))) low width) ⌝ }
-    ensures { λ r. ⌜ r ≤ 32 * width ⌝ }
+    requires { ⌜ Opened (now store) subject × T (rising (now labels)) × (length (now labels) ≤ 32) ⌝ }
+    requires { ⌜ (32 * length (now labels) ≤ length (now refs)) × (32 * length (now labels) ≤ length (now spare)) ⌝ }
+    ensures { λ r. ⌜ Refers subject (now (store .entry)) (take r (now (refs .exit))) (orderedOf subject (now (store .entry)) (stepsOf (now (path .entry))) (now (labels .entry))) ⌝ }
+    ensures { λ r. ⌜ r ≤ 32 * length (now (labels .entry)) ⌝ }
 {
-    if width < 2 {
-        return collect(store, subject, path, low, refs);
+    let width = labels.len();
+    if width == 0 {
+        return 0;
+    }
+    if width == 1 {
+        return collect(store, subject, path, labels[0], refs);
     }
     let half = width / 2;
-    let a = order(store, subject, path, low, half, spare, refs);
-    let b = order(
+    let a = order_labels(store, subject, path, &labels[0..half], spare, refs);
+    let b = order_labels(
         store,
         subject,
         path,
-        low + half,
-        width - half,
+        &labels[half..width],
         &mut spare[a..],
         &mut refs[a..],
     );
@@ -124,4 +155,15 @@ pub fn order(
     let runs = &spare[..];
     merge(store, subject, &runs[0..a], &runs[a..n], refs);
     n
+}
+
+// The references of the elements that the subject sees and that have the path or extend it, in path order: how many.
+pub fn order(store: &[u8], subject: u8, path: &[u8], refs: &mut [u16], spare: &mut [u16]) -> usize
+    requires { ⌜ Opened (now store) subject × (1024 ≤ length (now refs)) × (1024 ≤ length (now spare)) ⌝ }
+    ensures { λ r. ⌜ Refers subject (now (store .entry)) (take r (now (refs .exit))) (ordered subject (now (store .entry)) (stepsOf (now (path .entry)))) ⌝ }
+    ensures { λ r. ⌜ r ≤ 1024 ⌝ }
+{
+    let mut labels = [0u8; 32];
+    let n = occupied::occupied(store, subject, &mut labels);
+    order_labels(store, subject, path, &labels[0..n], refs, spare)
 }

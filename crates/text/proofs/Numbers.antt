@@ -1,36 +1,58 @@
--- How long a number is in decimal, and when it has a sign.
-use mathlib.Core.Path.{_≡_}
-use mathlib.Core.List.{List, [], _∷_, _++_}
-use Prim.Native.Nat.{ℕ, zero, suc, _+_, _-_, _*_, _/_, _%_, _≤_, _<_}
+-- A number in decimal by two and by four digits, and when it has a sign.
+use mathlib.Core.Path.{_≡_, ap, ap₂, _∙_}
+use mathlib.Core.List.{List, [], _∷_, _++_, append-assoc}
+use Prim.Native.Nat.{ℕ, _+_, _-_, _/_, _%_, _≤_, _<_}
 use native.Mathlib.Omega.{arith}
-use lib.ListN.{length, length-append}
 use borrow.Author.Tests.{lt-ltb, le-ltb}
 use Rattle.model.specs.Text.{decimal, signed}
-use Rattle.model.proofs.Decimal.{decimal-fact}
+use Rattle.model.proofs.Decimal.{decimal-one, decimal-more}
 use Rattle.text.specs.Overlay.{Wrote}
+use Rattle.text.specs.Digits.{pair, four}
 
-abbrev tens : ℕ → ℕ
-tens zero = 1
-tens (suc k) = 10 * tens k
+-- ---- by two and by four digits
 
--- a number below ten times ten to the k has at most k + 1 digits
-digits-length : (n k : ℕ) → n < 10 * tens k → length (decimal n) ≤ suc k
-digits-length = decimal-fact (λ n l. (k : ℕ) → n < 10 * tens k → length l ≤ suc k) one next
-  where
-    one : (n : ℕ) → n < 10 → (k : ℕ) → n < 10 * tens k → length ((48 + n) ∷ []) ≤ suc k
-    one n h k j = omega arith
+-- two digits
+pub decimal-pair : (n : ℕ) → 10 ≤ n → n < 100 → decimal n ≡ pair n
+unfolding pair
+decimal-pair n h k =
+    decimal-more n h ∙ ap (λ (l : List ℕ). l ++ ((48 + n % 10) ∷ [])) (decimal-one (n / 10) (omega arith))
 
-    next : (n : ℕ) (l : List ℕ) → 10 ≤ n → ((k : ℕ) → n / 10 < 10 * tens k → length l ≤ suc k)
-        → (k : ℕ) → n < 10 * tens k → length (l ++ ((48 + n % 10) ∷ [])) ≤ suc k
-    next n l h e zero j = absurd (omega arith)
-    next n l h e (suc k) j = rw (length-append l ((48 + n % 10) ∷ [])) (omega (arith, e k (omega arith)))
+-- the last two digits, and those before
+pub decimal-hundreds : (n : ℕ) → 100 ≤ n → decimal n ≡ decimal (n / 100) ++ pair (n % 100)
+unfolding pair
+decimal-hundreds n h =
+    let q : n / 10 / 10 ≡ n / 100 = omega arith in
+    let t : n / 10 % 10 ≡ n % 100 / 10 = omega arith in
+    let o : n % 10 ≡ n % 100 % 10 = omega arith in
+    decimal-more n (omega arith)
+    ∙ ap (λ (l : List ℕ). l ++ ((48 + n % 10) ∷ [])) (decimal-more (n / 10) (omega arith))
+    ∙ append-assoc (decimal (n / 10 / 10)) ((48 + n / 10 % 10) ∷ []) ((48 + n % 10) ∷ [])
+    ∙ ap (λ (m : ℕ). decimal m ++ ((48 + n / 10 % 10) ∷ (48 + n % 10) ∷ [])) q
+    ∙ ap₂ (λ (a b : ℕ). decimal (n / 100) ++ ((48 + a) ∷ (48 + b) ∷ [])) t o
 
-pub decimal-length : (n : ℕ) → n < 4294967296 → length (decimal n) ≤ 10
-decimal-length n h = digits-length n 9 (omega arith)
+-- the last four digits, and those before
+pub decimal-myriads : (n : ℕ) → 10000 ≤ n → decimal n ≡ decimal (n / 10000) ++ four (n % 10000)
+unfolding four
+decimal-myriads n h =
+    let q : n / 100 / 100 ≡ n / 10000 = omega arith in
+    let t : n / 100 % 100 ≡ n % 10000 / 100 = omega arith in
+    let o : n % 100 ≡ n % 10000 % 100 = omega arith in
+    decimal-hundreds n (omega arith)
+    ∙ ap (λ (l : List ℕ). l ++ pair (n % 100)) (decimal-hundreds (n / 100) (omega arith))
+    ∙ append-assoc (decimal (n / 100 / 100)) (pair (n / 100 % 100)) (pair (n % 100))
+    ∙ ap (λ (m : ℕ). decimal m ++ (pair (n / 100 % 100) ++ pair (n % 100))) q
+    ∙ ap₂ (λ (a b : ℕ). decimal (n / 10000) ++ (pair a ++ pair b)) t o
 
--- a number written ends within ten bytes
-pub within : {n : ℕ} → n < 4294967296 → {o o′ : List ℕ} {a r : ℕ} → Wrote o a (decimal n) o′ r → Wrote o a (decimal n) o′ r × (r ≤ a + 10)
-within {n} h w = (w, omega (arith, w .ends, decimal-length n h))
+-- where two and where four digits end
+pub pair-ends : (n : ℕ) {o o′ : List ℕ} {a r : ℕ} → Wrote o a (pair n) o′ r → r ≡ a + 2
+unfolding pair
+pair-ends n w = w .ends
+
+pub four-ends : (n : ℕ) {o o′ : List ℕ} {a r : ℕ} → Wrote o a (four n) o′ r → r ≡ a + 4
+unfolding four pair
+four-ends n w = w .ends
+
+-- ---- with a sign
 
 pub signed-plus : (m : ℕ) → m < 2147483648 → decimal m ≡ signed m
 unfolding signed

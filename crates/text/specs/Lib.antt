@@ -1,3 +1,4 @@
 -- What the contracts of this crate cite beside the model.
 pub mod Overlay
 pub mod Line
+pub mod Digits

@@ -1,5 +1,8 @@
 // Numbers and lines put into an output from a place on. What lies past the output's end is counted and not written, so that a dry
 // run over an empty part measures.
+mod digits;
+
+pub use digits::put_decimal;
 ghost use mathlib.Core.Path.{_≡_};
 ghost use mathlib.Core.Option.{none, some};
 ghost use mathlib.Core.List.{[], _∷_, _++_};
@@ -7,7 +10,7 @@ ghost use Prim.Native.Nat.{_+_, _≤_, _<_};
 ghost use lib.ListN.{length};
 ghost use lib.Dec.{T};
 ghost use Rattle.model.specs.Value.{allowed};
-ghost use Rattle.model.specs.Text.{decimal, measureOf, signed};
+ghost use Rattle.model.specs.Text.{measureOf, signed};
 ghost use Rattle.model.specs.View.{letter, shown, headLine};
 ghost use Rattle.text.specs.Overlay.{Wrote};
 ghost use Rattle.text.specs.Line.{lineOf, numberField, lineStart};
@@ -35,27 +38,6 @@ pub fn put_bytes(out: &mut [u8], at: usize, s: &[u8]) -> usize
         i += 1;
     }
     at + i
-}
-
-// The digit of a number below ten.
-fn digit(n: u32) -> u8
-    requires { ⌜ n < 10 ⌝ }
-    ensures { λ r. ⌜ r ≡ 48 + n ⌝ }
-{
-    48 + n as u8
-}
-
-// A number in decimal.
-pub fn put_decimal(out: &mut [u8], at: usize, n: u32) -> usize
-    requires { ⌜ at + 10 < 4294967296 ⌝ }
-    ensures { λ r. ⌜ Wrote (now (out .entry)) at (decimal n) (now (out .exit)) r ⌝ }
-    ensures { λ r. ⌜ r ≤ at + 10 ⌝ }
-{
-    if n < 10 {
-        return put_byte(out, at, digit(n));
-    }
-    let last = put_decimal(out, at, n / 10);
-    put_byte(out, last, digit(n % 10))
 }
 
 // The number that a measure's four bytes hold, lowest first.

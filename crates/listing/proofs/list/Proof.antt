@@ -15,7 +15,12 @@ list-spec =
     (λ c. search needs)  -- sub-put-listing
     (λ c. search needs)  -- part-put-listing-start
     (λ c. search needs)  -- part-put-listing-end
-    (λ c κs. ((c .before .before .before .before .before .before .before .before .before .before .before .pre, first-refs (stepsOf (c .before .before .before .before .before .before .before .before .before .before .before .args .path .now)) (c .before .before .before .before .before .order .result) (c .before .before .before .before .before .order .last .1 .1 .1 .1 .1 .0) (c .before .before .before .before .before .order .ensures .1) (c .before .before .before .before .before .order .ensures .0) .0), first-refs (stepsOf (c .before .before .before .before .before .before .before .before .before .before .before .args .path .now)) (c .before .before .before .before .before .order .result) (c .before .before .before .before .before .order .last .1 .1 .1 .1 .1 .0) (c .before .before .before .before .before .order .ensures .1) (c .before .before .before .before .before .order .ensures .0) .1))  -- put-listing-requires
+    -- put-listing-requires
+    (λ c κs.
+    let start = c .before .before .before .before .before .before .before .before .before .before .before in
+    let ordered = c .before .before .before .before .before .order in
+    let refs = first-refs (stepsOf (start .args .path .now)) (ordered .result) (ordered .last .1 .1 .1 .0) (ordered .ensures .1) (ordered .ensures .0) in
+    ((start .pre, refs .0), refs .1))
     (λ c. search needs)  -- same-length
     (λ c. search needs)  -- returns
     )

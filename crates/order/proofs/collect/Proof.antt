@@ -13,14 +13,37 @@ collect-spec =
     tie.close
     (tie.spec
     (λ c. search needs)  -- dominates-requires
-    (λ c. (none-collected (c .before .before .before .before .before .pre .0) (stepsOf (c .before .before .before .before .before .args .path .now)) _ (c .before .dominates .ensures) (c .if1 .taken) (c .before .before .before .before .before .args .refs .now), omega arith))  -- returns
-    (λ c κs. (c .before .before .before .before .before .pre .0 .size, dominated (c .before .before .before .before .before .pre .0) (stepsOf (c .before .before .before .before .before .args .path .now)) _ (c .before .dominates .ensures) (c .if1 .left)))  -- partition-of-requires
-    (λ c κs. formed (c .before .before .before .before .before .before .pre .0) (stepsOf (c .before .before .before .before .before .before .args .path .now)) _ (c .before .before .dominates .ensures) (c .before .if1 .left) (c .partition-of .ensures))  -- find-requires
-    (λ c κs. (formed (c .before .before .before .before .before .before .before .pre .0) (stepsOf (c .before .before .before .before .before .before .before .args .path .now)) _ (c .before .before .before .dominates .ensures) (c .before .before .if1 .left) (c .before .partition-of .ensures), c .find .ensures .at-is))  -- run-length-requires
+    -- returns
+    (λ c.
+    let start = c .before .before .before .before .before in
+    (none-collected (start .pre .0) (stepsOf (start .args .path .now)) _ (c .before .dominates .ensures) (c .if1 .taken) (start .args .refs .now), omega arith))
+    -- partition-of-requires
+    (λ c κs.
+    let start = c .before .before .before .before .before in
+    (start .pre .0 .size, dominated (start .pre .0) (stepsOf (start .args .path .now)) _ (c .before .dominates .ensures) (c .if1 .left)))
+    -- run-of-requires
+    (λ c κs.
+    let start = c .before .before .before .before .before .before in
+    formed (start .pre .0) (stepsOf (start .args .path .now)) _ (c .before .before .dominates .ensures) (c .before .if1 .left) (c .partition-of .ensures))
     (λ c. search needs)  -- mul-count-from
-    (λ c. omega (arith, few-collected (c .before .before .before .before .before .before .before .before .before .pre .0) (stepsOf (c .before .before .before .before .before .before .before .before .before .args .path .now)) _ (c .before .before .before .before .before .dominates .ensures) (c .before .before .before .before .if1 .left) (c .before .before .before .partition-of .ensures) (c .before .before .find .ensures) (c .before .run-length .ensures)))  -- cast-count-from
-    (λ c. omega (arith, dominated-lt _ _ (dominated (c .before .before .before .before .before .before .before .before .before .pre .0) (stepsOf (c .before .before .before .before .before .before .before .before .before .args .path .now)) _ (c .before .before .before .before .before .dominates .ensures) (c .before .before .before .before .if1 .left)), few-collected (c .before .before .before .before .before .before .before .before .before .pre .0) (stepsOf (c .before .before .before .before .before .before .before .before .before .args .path .now)) _ (c .before .before .before .before .before .dominates .ensures) (c .before .before .before .before .if1 .left) (c .before .before .before .partition-of .ensures) (c .before .before .find .ensures) (c .before .run-length .ensures)))  -- add-count-from
-    (λ c κs. (omega (arith, c .before .before .before .before .before .before .before .before .before .pre .1, few-collected (c .before .before .before .before .before .before .before .before .before .pre .0) (stepsOf (c .before .before .before .before .before .before .before .before .before .args .path .now)) _ (c .before .before .before .before .before .dominates .ensures) (c .before .before .before .before .if1 .left) (c .before .before .before .partition-of .ensures) (c .before .before .find .ensures) (c .before .run-length .ensures)), omega (arith, dominated-lt _ _ (dominated (c .before .before .before .before .before .before .before .before .before .pre .0) (stepsOf (c .before .before .before .before .before .before .before .before .before .args .path .now)) _ (c .before .before .before .before .before .dominates .ensures) (c .before .before .before .before .if1 .left)), few-collected (c .before .before .before .before .before .before .before .before .before .pre .0) (stepsOf (c .before .before .before .before .before .before .before .before .before .args .path .now)) _ (c .before .before .before .before .before .dominates .ensures) (c .before .before .before .before .if1 .left) (c .before .before .before .partition-of .ensures) (c .before .before .find .ensures) (c .before .run-length .ensures))))  -- count-from-requires
+    -- cast-count-from
+    (λ c.
+    let start = c .before .before .before .before .before .before .before .before in
+    omega (arith, few-collected (start .pre .0) (stepsOf (start .args .path .now)) _ (c .before .before .before .before .dominates .ensures) (c .before .before .before .if1 .left) (c .before .before .partition-of .ensures) (c .before .run-of .ensures .0) (c .before .run-of .ensures .1)))
+    -- add-count-from
+    (λ c.
+    let start = c .before .before .before .before .before .before .before .before in
+    let few = few-collected (start .pre .0) (stepsOf (start .args .path .now)) _ (c .before .before .before .before .dominates .ensures) (c .before .before .before .if1 .left) (c .before .before .partition-of .ensures) (c .before .run-of .ensures .0) (c .before .run-of .ensures .1) in
+    omega (arith, dominated-lt _ _ (dominated (start .pre .0) (stepsOf (start .args .path .now)) _ (c .before .before .before .before .dominates .ensures) (c .before .before .before .if1 .left)), few))
+    -- count-from-requires
+    (λ c κs.
+    let start = c .before .before .before .before .before .before .before .before in
+    let few = few-collected (start .pre .0) (stepsOf (start .args .path .now)) _ (c .before .before .before .before .dominates .ensures) (c .before .before .before .if1 .left) (c .before .before .partition-of .ensures) (c .before .run-of .ensures .0) (c .before .run-of .ensures .1) in
+    (omega (arith, start .pre .1, few), omega (arith, dominated-lt _ _ (dominated (start .pre .0) (stepsOf (start .args .path .now)) _ (c .before .before .before .before .dominates .ensures) (c .before .before .before .if1 .left)), few)))
     (λ c. search needs)  -- same-length
-    (λ c. (collected (c .before .before .before .before .before .before .before .before .before .before .before .before .pre .0) (stepsOf (c .before .before .before .before .before .before .before .before .before .before .before .before .args .path .now)) _ (c .before .before .before .before .before .before .before .before .dominates .ensures) (c .before .before .before .before .before .before .before .if1 .left) (c .before .before .before .before .before .before .partition-of .ensures) (c .before .before .before .before .before .find .ensures) (c .before .before .before .before .run-length .ensures) refl _ (c .before .before .count-from .ensures), omega (arith, few-collected (c .before .before .before .before .before .before .before .before .before .before .before .before .pre .0) (stepsOf (c .before .before .before .before .before .before .before .before .before .before .before .before .args .path .now)) _ (c .before .before .before .before .before .before .before .before .dominates .ensures) (c .before .before .before .before .before .before .before .if1 .left) (c .before .before .before .before .before .before .partition-of .ensures) (c .before .before .before .before .before .find .ensures) (c .before .before .before .before .run-length .ensures))))  -- returns-2
+    -- returns-2
+    (λ c.
+    let start = c .before .before .before .before .before .before .before .before .before .before .before in
+    let few = few-collected (start .pre .0) (stepsOf (start .args .path .now)) _ (c .before .before .before .before .before .before .before .dominates .ensures) (c .before .before .before .before .before .before .if1 .left) (c .before .before .before .before .before .partition-of .ensures) (c .before .before .before .before .run-of .ensures .0) (c .before .before .before .before .run-of .ensures .1) in
+    (collected (start .pre .0) (stepsOf (start .args .path .now)) _ (c .before .before .before .before .before .before .before .dominates .ensures) (c .before .before .before .before .before .before .if1 .left) (c .before .before .before .before .before .partition-of .ensures) (c .before .before .before .before .run-of .ensures .0) (c .before .before .before .before .run-of .ensures .1) refl _ (c .before .before .count-from .ensures), omega (arith, few)))
     )

@@ -1,0 +1,44 @@
+-- `listing::count_lines`: the lines counted, and those of the references left, are all.
+use borrow.Author.Needs.{needs}
+use native.Mathlib.Omega.{arith}
+use Prim.Native.Nat.{_-_}
+use lib.ListN.{length}
+use Rattle.model.specs.Path.{stepsOf}
+use Rattle.listing.proofs.Walking.{here-refers, here-new, Counting, count-start, count-next, count-end}
+use Rattle.listing.proofs.count_lines.Statement.{statement}
+use Rattle.listing.proofs.count_lines.Tie as tie
+
+abbrev Inv-loop : tie.InvT-loop
+Inv-loop store subject path refs lines₀ i₀ lines i = Counting subject store (stepsOf path) refs lines i
+
+abbrev μ-loop : tie.MeasureT-loop
+μ-loop store subject path refs lines₀ i₀ lines i = length refs - i
+
+pub count-lines-spec : {M : Type 1} → statement M
+count-lines-spec =
+    tie.close
+    (tie.spec
+    Inv-loop
+    μ-loop
+    (λ c. count-start (stepsOf (c .before .before .before .args .path .now)) (c .before .before .before .pre .1))  -- loop-holds
+    (λ c κs. ((c .before .before .before .before .before .pre .0 .0, c .loop-test .taken), c .before .before .before .before .before .pre .1))  -- shared-above-requires
+    (λ c. search needs)  -- mul-slot-of
+    (λ c. c .before .before .loop-test .taken)  -- shared-slice-read-slot-of
+    (λ c κs. (c .before .before .before .before .before .before .before .pre .0 .0, here-refers (stepsOf (c .before .before .before .before .before .before .before .args .path .now)) (c .before .before .before .before .before .before .before .pre .1) _ (c .before .before .loop-test .taken)))  -- slot-of-requires
+    (λ c κs. c .slot-of .ensures .1 .size)  -- depth-requires
+    -- sub-lines
+    (λ c.
+    let start = c .before .before .before .before .before .before .before .before .before in
+    omega (arith, here-new (stepsOf (start .args .path .now)) (start .pre .1) _ (c .before .before .before .before .loop-test .taken) (c .before .slot-of .ensures) (c .before .before .before .shared-above .ensures), c .depth .ensures .0))
+    (λ c. search (needs, c .before .before .before .before .before .loop .inv .few, c .depth .ensures .1, c .before .before .before .before .loop-test .taken, c .before .before .before .before .before .before .before .before .before .pre .0 .1))  -- add-lines
+    (λ c. search needs)  -- add-i
+    (λ c. search needs)  -- loop-less
+    -- loop-again
+    (λ c.
+    let start = c .before .before .before .before .before .before .before .before .before in
+    count-next (stepsOf (start .args .path .now)) (start .pre .1) (c .before .before .before .before .before .loop .inv) (c .before .before .before .before .loop-test .taken) (c .before .slot-of .ensures) (c .before .before .before .shared-above .ensures) (c .depth .ensures))
+    -- returns
+    (λ c.
+    let start = c .before .before .before .before .before in
+    (count-end (stepsOf (start .args .path .now)) (start .pre .1) (c .before .loop .inv) (c .loop-test .left), omega (arith, c .before .loop .inv .few, c .before .loop .inv .within, start .pre .0 .1)))
+    )

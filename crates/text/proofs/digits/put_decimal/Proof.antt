@@ -1,0 +1,24 @@
+-- `text::digits::put_decimal`: below ten thousand, or the ten thousands and four digits.
+use native.Mathlib.Omega.{arith}
+use borrow.Author.Needs.{needs}
+use mathlib.Core.Path.{sym}
+use Rattle.text.proofs.Numbers.{decimal-myriads, four-ends}
+use Rattle.text.proofs.Overlays.{then, wrote-as}
+use Rattle.text.proofs.digits.put_decimal.Statement.{statement}
+use Rattle.text.proofs.digits.put_decimal.Tie as tie
+
+pub put-decimal-spec : {M : Type 1} → statement M
+put-decimal-spec =
+    tie.close
+    (tie.spec
+    (λ c κs. search needs)  -- put-below-10000-requires
+    (λ c. search needs)  -- same-length
+    (λ c. search needs)  -- returns
+    (λ c κs. search needs)  -- put-below-1000000-requires
+    (λ c κs. search needs)  -- put-four-requires
+    (λ c. search needs)  -- same-length-2
+    (λ c.
+    let high = c .before .before .before .before .before .before .put-below-1000000 .ensures in
+    let digits = c .before .before .put-four .ensures in
+    (wrote-as (sym (decimal-myriads _ (c .before .before .before .before .before .before .before .before .if1 .left))) (then (high .0) digits), omega (arith, high .1, four-ends _ digits)))  -- returns-2
+    )
