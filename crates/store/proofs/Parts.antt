@@ -1,21 +1,22 @@
 -- A store's partitions as the code reads them.
-use mathlib.Core.Path.{_≡_, sym, ap, _∙_}
+use mathlib.Core.Path.{_≡_, refl, sym, ap, _∙_}
 use mathlib.Core.Bool.{Bool, true, false, not, _&&_}
 use mathlib.Core.List.{List}
-use Prim.Native.Nat.{ℕ, _+_, _-_, _*_, _<_}
+use Prim.Native.Nat.{ℕ, zero, suc, _+_, _-_, _*_, _/_, _%_, _≤_, _<_}
 use native.Mathlib.Omega.{arith}
 use borrow.Author.Tests.{not-true, not-false}
 use lib.ListN.{length, take, drop, length-drop}
 use lib.Seq.{length-take-le}
 use lib.Dec.{T}
-use Rattle.model.specs.Lists.{any}
-use Rattle.model.specs.Label.{dominates}
+use mir.Facts.{leb-yes}
+use Rattle.model.specs.Lists.{any, range}
+use Rattle.model.specs.Label.{level, sizing, fabric, cost, includes, dominates}
 use Rattle.model.specs.Partition.{partitionSize, readPartition, wellFormed}
 use Rattle.model.specs.Store.{storeSize, partition}
 use Rattle.model.specs.Model.{held, raw, isHeld, elements, openCell, openModel, ownSet}
 use Rattle.model.specs.Call.{someRaw}
-use Rattle.model.proofs.Bools.{decide, cond-yes, cond-no, is-true, is-false}
-use Rattle.model.proofs.Dominance.{label-lt, dominates-lower}
+use Rattle.model.proofs.Bools.{and-l, and-r, decide, cond-yes, cond-no, is-true, is-false}
+use Rattle.model.proofs.Dominance.{label-lt, dominates-upper, dominates-lower}
 use Rattle.model.proofs.Stores.{yes-has, partition-part}
 use Rattle.model.proofs.Walks.{Left, left-start}
 
@@ -71,6 +72,36 @@ part-lent s n b {k} size t e =
     (p, ap length p ∙ part-size s n b size t)
 
 -- ---- over the labels
+
+-- a label is not greater than one that dominates it
+dominated-le : (s n : ℕ) → T (dominates s n) → n ≤ s
+unfolding dominates includes level sizing fabric cost
+dominated-le s n t =
+    let a : n / 8 ≤ s / 8 = leb-yes (search (and-l, and-r)) in
+    let b : n % 2 ≤ s % 2 = leb-yes (search (and-l, and-r)) in
+    let c : n / 2 % 2 ≤ s / 2 % 2 = leb-yes (search (and-l, and-r)) in
+    let d : n / 4 % 2 ≤ s / 4 % 2 = leb-yes (search (and-l, and-r)) in
+    let f : n / 4 ≡ n / 2 / 2 = omega arith in
+    let g : n / 8 ≡ n / 4 / 2 = omega arith in
+    let h : s / 4 ≡ s / 2 / 2 = omega arith in
+    let k : s / 8 ≡ s / 4 / 2 = omega arith in
+    omega arith
+
+-- so none from e on is dominated
+not-above : (s e n : ℕ) → (e ≤ 32) × (s < 32 → s < e) → e ≤ n → dominates s n ≡ false
+not-above s e n f h =
+    decide (dominates s n)
+    (λ (t : T (dominates s n)). absurd (omega (arith, dominated-le s n t, f .1 (label-lt s (dominates-upper s n t)))))
+    (λ (t : T (not (dominates s n))). is-false (dominates s n) t)
+
+any-none : (p : ℕ → Bool) (i c : ℕ) → ((n : ℕ) → i ≤ n → p n ≡ false) → any p (range (λ n. n) i c) ≡ false
+any-none p i zero f = refl
+any-none p i (suc c) f = rw (f i (omega arith)) (any-none p (suc i) c (λ n h. f n (omega arith)))
+
+-- and a loop over the labels may end there
+pub none-above : {p : ℕ → Bool} {w : Bool} {i : ℕ} → Left (λ n. n) (any p) w 32 i → (s e : ℕ) → (e ≤ 32) × (s < 32 → s < e) → e ≤ i
+    → ((n : ℕ) → dominates s n ≡ false → p n ≡ false) → false ≡ w
+none-above {p} {w} {i} inv s e f h q = sym (inv .same ∙ any-none p i (32 - i) (λ n k. q n (not-above s e n f (omega arith))))
 
 -- the subject dominates label n, whose partition is not well formed
 abbrev pub rawAt : ℕ → List ℕ → ℕ → Bool

@@ -5,6 +5,7 @@ pub use writing::insert;
 pub use writing::remove;
 ghost use mathlib.Core.Path.{_≡_};
 ghost use mathlib.Core.Bool.{not, _&&_};
+ghost use Prim.Native.Nat.{_≤_, _<_};
 ghost use lib.ListN.{length};
 ghost use lib.Dec.{T};
 ghost use Rattle.model.specs.Label.{dominates};
@@ -37,13 +38,24 @@ fn is_raw(store: &[u8], subject: u8, label: u8) -> bool
     !partition::is_well_formed(partition_of(store, subject, label), label)
 }
 
+// Where the labels that a subject may dominate end: none is greater than he, and he dominates none if he is no label.
+fn labels_end(subject: u8) -> u8
+    ensures { λ r. ⌜ (r ≤ 32) × (subject < 32 → subject < r) ⌝ }
+{
+    if 32 <= subject {
+        return 0;
+    }
+    subject + 1
+}
+
 // Whether a partition that the subject dominates is not well formed: then a call is refused with 3.
 pub fn some_raw(store: &[u8], subject: u8) -> bool
     requires { ⌜ length (now store) ≡ storeSize ⌝ }
     ensures { λ r. ⌜ r ≡ someRaw subject (openModel (now (store .entry))) ⌝ }
 {
+    let end = labels_end(subject);
     let mut n: u8 = 0;
-    while n < 32 {
+    while n < end {
         if is_raw(store, subject, n) {
             return true;
         }
@@ -71,8 +83,9 @@ pub fn in_view(store: &[u8], subject: u8, path: &[u8]) -> bool
     if path.len() < 3 {
         return true;
     }
+    let end = labels_end(subject);
     let mut n: u8 = 0;
-    while n < 32 {
+    while n < end {
         if holds_below(store, subject, n, path) {
             return true;
         }
