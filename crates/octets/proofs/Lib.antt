@@ -1,3 +1,4 @@
 -- The laws of the loops.
 pub mod Tests
+pub mod Quarters
 pub mod Shifts

@@ -2,11 +2,11 @@
 use mathlib.Core.Path.{_≡_, refl, sym, ap, _∙_}
 use mathlib.Core.Bool.{Bool, true, _&&_, and-true, and-assoc}
 use mathlib.Core.List.{List, [], _∷_}
-use Prim.Native.Nat.{ℕ, zero, suc, _+_, _≤_, _<_}
+use Prim.Native.Nat.{ℕ, zero, suc, _+_, _-_, _≤_, _<_}
 use native.Mathlib.Numerals.{add-one}
 use native.Mathlib.Omega.{arith}
-use lib.ListN.{length, drop, getD, drop-of-length-le}
-use lib.Seq.{drop-cons}
+use lib.ListN.{length, drop, getD, length-drop, drop-of-length-le}
+use lib.Seq.{drop-cons, getD-drop}
 use lib.Bits.{bitOr, or-zero-l, or-add-and, and-le-r}
 use lib.Dec.{T, eqb}
 use mir.Syntax.{w8}
@@ -38,6 +38,24 @@ module _ {p : ℕ → Bool} {s : List ℕ} {t : Bool} {i : ℕ} (inv : Tested p 
 
   pub test-end : length s ≤ i → t ≡ all p s
   test-end h = sym (inv .same ∙ ap (λ (l : List ℕ). t && all p l) (drop-of-length-le s h) ∙ and-true t)
+
+-- t is the answer for the members from k to i - 1
+module _ {p : ℕ → Bool} (s : List ℕ) (k i : ℕ) {t : Bool} (inv : Tested p (drop k s) t (i - k)) where
+  pub tail-skip : i < k → {u : Bool} → u ≡ t → Tested p (drop k s) u (i + 1 - k)
+  tail-skip h e = let n : i + 1 - k ≡ i - k = omega arith in rw (e, n) inv
+
+  pub tail-next : k ≤ i → i < length s → {u : Bool} → u ≡ (t && p (getD s i 0)) → Tested p (drop k s) u (i + 1 - k)
+  tail-next h l e =
+      let n : i + 1 - k ≡ i - k + 1 = omega arith in
+      let q : k + (i - k) ≡ i = omega arith in
+      let g : getD (drop k s) (i - k) 0 ≡ getD s i 0 = getD-drop k s (i - k) 0 ∙ ap (λ (j : ℕ). getD s j 0) q in
+      rw n (test-next inv (simp length-drop (omega arith)) (e ∙ ap (λ (x : ℕ). t && p x) (sym g)))
+
+  pub tail-end : length s ≤ i → t ≡ all p (drop k s)
+  tail-end h = test-end inv (simp length-drop (omega arith))
+
+pub tail-start : (p : ℕ → Bool) (s : List ℕ) (k : ℕ) → Tested p (drop k s) true (0 - k)
+tail-start p s k = let e : 0 - k ≡ 0 = omega arith in rw e (test-start p (drop k s))
 
 byte : (x : ℕ) → Fits w8 x → T (isByte x)
 unfolding isByte

@@ -1,5 +1,6 @@
 // Small loops on byte slices.
 ghost use mathlib.Core.Path.{_≡_};
+ghost use mathlib.Core.Bool.{_&&_};
 ghost use mathlib.Core.List.{_++_};
 ghost use Prim.Native.Nat.{_-_, _≤_, _<_};
 ghost use lib.ListN.{length, take, drop, replicate};
@@ -19,17 +20,47 @@ pub fn index(x: u8) -> usize
     x as usize
 }
 
-// Whether every byte is 0. No early exit, so that the loop runs over vectors.
-pub fn is_zero(s: &[u8]) -> bool
-    ensures { λ r. ⌜ r ≡ allZero (now (s .entry)) ⌝ }
+// Whether the bytes from a place on are 0. Every byte is visited, with no early exit, so that a loop of known length is unrolled.
+pub fn tail_zero(s: &[u8], from: usize) -> bool
+    ensures { λ r. ⌜ r ≡ allZero (drop from (now (s .entry))) ⌝ }
 {
     let mut acc: u8 = 0;
     let mut i: usize = 0;
     while i < s.len() {
-        acc = acc | s[i];
+        if from <= i {
+            acc = acc | s[i];
+        }
         i += 1;
     }
     acc == 0
+}
+
+// Whether four slices of one length are all 0. One loop over the four, so that it reads four vectors a turn.
+fn four_zero(a: &[u8], b: &[u8], c: &[u8], d: &[u8]) -> bool
+    requires { ⌜ (length (now b) ≡ length (now a)) × (length (now c) ≡ length (now a)) × (length (now d) ≡ length (now a)) ⌝ }
+    ensures { λ r. ⌜ r ≡ ((allZero (now (a .entry)) && allZero (now (b .entry))) && (allZero (now (c .entry)) && allZero (now (d .entry)))) ⌝ }
+{
+    let mut acc: u8 = 0;
+    let mut i: usize = 0;
+    while i < a.len() {
+        acc = acc | ((a[i] | b[i]) | (c[i] | d[i]));
+        i += 1;
+    }
+    acc == 0
+}
+
+// Whether every byte is 0: the four quarters, then the bytes behind them, at most three.
+pub fn is_zero(s: &[u8]) -> bool
+    ensures { λ r. ⌜ r ≡ allZero (now (s .entry)) ⌝ }
+{
+    let a = s.len() / 4;
+    let b = 2 * a;
+    let c = 3 * a;
+    let d = 4 * a;
+    if !four_zero(&s[0..a], &s[a..b], &s[b..c], &s[c..d]) {
+        return false;
+    }
+    tail_zero(&s[d..], 0)
 }
 
 // Moves the bytes up by k places: the first k stay, the last k are lost.
