@@ -1,6 +1,6 @@
 -- A store's partitions as the code reads them.
 use mathlib.Core.Path.{_≡_, refl, sym, ap, _∙_}
-use mathlib.Core.Bool.{Bool, true, false, not, _&&_}
+use mathlib.Core.Bool.{Bool, true, false, not, _&&_, _||_}
 use mathlib.Core.List.{List}
 use Prim.Native.Nat.{ℕ, zero, suc, _+_, _-_, _*_, _/_, _%_, _≤_, _<_}
 use native.Mathlib.Omega.{arith}
@@ -10,7 +10,7 @@ use lib.Seq.{length-take-le}
 use lib.Dec.{T}
 use mir.Facts.{leb-yes}
 use Rattle.model.specs.Lists.{any, range}
-use Rattle.model.specs.Label.{level, sizing, fabric, cost, includes, dominates}
+use Rattle.model.specs.Label.{labels, level, sizing, fabric, cost, includes, dominates}
 use Rattle.model.specs.Partition.{partitionSize, readPartition, wellFormed}
 use Rattle.model.specs.Store.{storeSize, partition}
 use Rattle.model.specs.Model.{held, raw, isHeld, elements, openCell, openModel, ownSet}
@@ -94,19 +94,22 @@ not-above s e n f h =
     (λ (t : T (dominates s n)). absurd (omega (arith, dominated-le s n t, f .1 (label-lt s (dominates-upper s n t)))))
     (λ (t : T (not (dominates s n))). is-false (dominates s n) t)
 
-any-none : (p : ℕ → Bool) (i c : ℕ) → ((n : ℕ) → i ≤ n → p n ≡ false) → any p (range (λ n. n) i c) ≡ false
-any-none p i zero f = refl
-any-none p i (suc c) f = rw (f i (omega arith)) (any-none p (suc i) c (λ n h. f n (omega arith)))
+-- a search over a range may end where no member behind it passes
+any-cut : (p : ℕ → Bool) (i k c : ℕ) → k ≤ c → ((n : ℕ) → i + k ≤ n → p n ≡ false) → any p (range (λ n. n) i c) ≡ any p (range (λ n. n) i k)
+any-cut p i zero zero h f = refl
+any-cut p i zero (suc c) h f = rw (f i (omega arith)) (any-cut p (suc i) zero c (omega arith) (λ n g. f n (omega arith)))
+any-cut p i (suc k) zero h f = absurd (omega arith)
+any-cut p i (suc k) (suc c) h f = ap (λ (t : Bool). p i || t) (any-cut p (suc i) k c (omega arith) (λ n g. f n (omega arith)))
 
--- and a loop over the labels may end there
-pub none-above : {p : ℕ → Bool} {w : Bool} {i : ℕ} → Left (λ n. n) (any p) w 32 i → (s e : ℕ) → (e ≤ 32) × (s < 32 → s < e) → e ≤ i
-    → ((n : ℕ) → dominates s n ≡ false → p n ≡ false) → false ≡ w
-none-above {p} {w} {i} inv s e f h q = sym (inv .same ∙ any-none p i (32 - i) (λ n k. q n (not-above s e n f (omega arith))))
+-- so one over the labels that needs dominance may end at e
+pub labels-start : (s : ℕ) (p : ℕ → Bool) {e : ℕ} → (e ≤ 32) × (s < 32 → s < e) → ((n : ℕ) → dominates s n ≡ false → p n ≡ false)
+    → Left (λ n. n) (any p) (any p labels) e 0
+labels-start s p {e} f q = rw (any-cut p 0 e 32 (f .0) (λ n h. q n (not-above s e n f (omega arith)))) (left-start (λ n. n) (any p) e)
 
 -- the subject dominates label n, whose partition is not well formed
 abbrev pub rawAt : ℕ → List ℕ → ℕ → Bool
 rawAt s b n = dominates s n && not (isHeld (openModel b .cell n))
 
-pub raw-start : (s : ℕ) (b : List ℕ) → Left (λ n. n) (any (rawAt s b)) (someRaw s (openModel b)) 32 0
+pub raw-start : (s : ℕ) (b : List ℕ) {e : ℕ} → (e ≤ 32) × (s < 32 → s < e) → Left (λ n. n) (any (rawAt s b)) (someRaw s (openModel b)) e 0
 unfolding someRaw
-raw-start s b = left-start (λ n. n) (any (rawAt s b)) 32
+raw-start s b f = labels-start s (rawAt s b) f (λ n q. rw q)

@@ -18,11 +18,11 @@ use Rattle.model.specs.View.{visible, reaches, inView}
 use Rattle.model.specs.Call.{someRaw}
 use Rattle.model.proofs.Bools.{cond-yes}
 use Rattle.model.proofs.Members.{not-any}
-use Rattle.model.proofs.Walks.{Left, left-start, in-range}
+use Rattle.model.proofs.Walks.{Left, in-range}
 use Rattle.path.proofs.Steps.{length-steps}
 use Rattle.partition.specs.Place.{Formed}
 use Rattle.store.specs.Opened.{Opened, belowAt}
-use Rattle.store.proofs.Parts.{rawAt, held-formed, formed-set, dominated-lt}
+use Rattle.store.proofs.Parts.{rawAt, held-formed, formed-set, dominated-lt, labels-start}
 
 -- a partition that the subject dominates is well formed
 pub opened-formed : {b : List ℕ} {s : ℕ} → Opened b s → (n : ℕ) → T (dominates s n) → T (wellFormed n (partition n b))
@@ -79,12 +79,13 @@ view-root s b p h = go (stepsOf p) (length-steps p)
     go [] e = refl
     go (a ∷ q) e = absurd (omega arith)
 
-pub view-start : (s : ℕ) (b p : List ℕ) → 3 ≤ length p → Left (λ n. n) (any (belowAt s b (stepsOf p))) (inView s (openModel b) (stepsOf p)) 32 0
+pub view-start : (s : ℕ) (b p : List ℕ) → 3 ≤ length p → {e : ℕ} → (e ≤ 32) × (s < 32 → s < e)
+    → Left (λ n. n) (any (belowAt s b (stepsOf p))) (inView s (openModel b) (stepsOf p)) e 0
 unfolding inView visible
-view-start s b p h = go (stepsOf p) (length-steps p)
+view-start s b p h {e} f = go (stepsOf p) (length-steps p)
   where
-    go : (q : List Step) → length q ≡ length p / 3 → Left (λ n. n) (any (belowAt s b q)) (reaches (visible s (openModel b)) q) 32 0
-    go [] e = absurd (omega arith)
-    go (a ∷ q) e =
+    go : (q : List Step) → length q ≡ length p / 3 → Left (λ n. n) (any (belowAt s b q)) (reaches (visible s (openModel b)) q) e 0
+    go [] l = absurd (omega arith)
+    go (a ∷ q) l =
         rw (any-gather (λ d. isPrefix (a ∷ q) (d .path)) (λ n. cond (dominates s n) (ownSet n (openModel b)) []) labels)
-        (left-start (λ n. n) (any (belowAt s b (a ∷ q))) 32)
+        (labels-start s (belowAt s b (a ∷ q)) f (λ n z. rw z))

@@ -5,15 +5,14 @@ use Rattle.model.specs.Lists.{any}
 use Rattle.model.specs.Path.{stepsOf}
 use Rattle.model.specs.Model.{openModel}
 use Rattle.model.specs.View.{inView}
-use Rattle.model.proofs.Walks.{Left, any-found, any-next}
+use Rattle.model.proofs.Walks.{Left, any-found, any-next, any-end}
 use Rattle.store.specs.Opened.{belowAt}
-use Rattle.store.proofs.Parts.{none-above}
 use Rattle.store.proofs.Viewing.{view-root, view-start}
 use Rattle.store.proofs.in_view.Statement.{statement}
 use Rattle.store.proofs.in_view.Tie as tie
 
 abbrev Inv-loop : tie.InvT-loop
-Inv-loop store subject path end n₀ n = Left (λ n. n) (any (belowAt subject store (stepsOf path))) (inView subject (openModel store) (stepsOf path)) 32 n
+Inv-loop store subject path end n₀ n = Left (λ n. n) (any (belowAt subject store (stepsOf path))) (inView subject (openModel store) (stepsOf path)) end n
 
 abbrev μ-loop : tie.MeasureT-loop
 μ-loop store subject path end n₀ n = end - n
@@ -26,11 +25,11 @@ in-view-spec =
     μ-loop
     (λ c. view-root _ _ (c .before .before .before .args .path .now) (c .if1 .taken))  -- returns
     (λ c. search needs)  -- labels-end-requires
-    (λ c. view-start _ _ (c .before .before .before .before .args .path .now) (c .before .if1 .left))  -- loop-holds
+    (λ c. view-start _ _ (c .before .before .before .before .args .path .now) (c .before .if1 .left) (c .labels-end .ensures))  -- loop-holds
     (λ c. search needs)  -- holds-below-requires
-    (λ c. any-found (c .before .before .before .loop .inv) (search needs) (c .before .holds-below .ensures) (c .if2 .taken))  -- returns-2
+    (λ c. any-found (c .before .before .before .loop .inv) (c .before .before .loop-test .taken) (c .before .holds-below .ensures) (c .if2 .taken))  -- returns-2
     (λ c. search needs)  -- add-n
     (λ c. search needs)  -- loop-less
-    (λ c. any-next (c .before .before .before .loop .inv) (search needs) (c .before .holds-below .ensures) (c .if2 .left))  -- loop-again
-    (λ c. none-above (c .before .loop .inv) _ _ (c .before .before .labels-end .ensures) (c .loop-test .left) (λ n q. rw q))  -- returns-3
+    (λ c. any-next (c .before .before .before .loop .inv) (c .before .before .loop-test .taken) (c .before .holds-below .ensures) (c .if2 .left))  -- loop-again
+    (λ c. any-end (c .before .loop .inv) (c .loop-test .left))  -- returns-3
     )

@@ -4,13 +4,13 @@ use Prim.Native.Nat.{_-_}
 use Rattle.model.specs.Lists.{any}
 use Rattle.model.specs.Model.{openModel}
 use Rattle.model.specs.Call.{someRaw}
-use Rattle.model.proofs.Walks.{Left, any-found, any-next}
-use Rattle.store.proofs.Parts.{rawAt, raw-start, none-above}
+use Rattle.model.proofs.Walks.{Left, any-found, any-next, any-end}
+use Rattle.store.proofs.Parts.{rawAt, raw-start}
 use Rattle.store.proofs.some_raw.Statement.{statement}
 use Rattle.store.proofs.some_raw.Tie as tie
 
 abbrev Inv-loop : tie.InvT-loop
-Inv-loop store subject end n₀ n = Left (λ n. n) (any (rawAt subject store)) (someRaw subject (openModel store)) 32 n
+Inv-loop store subject end n₀ n = Left (λ n. n) (any (rawAt subject store)) (someRaw subject (openModel store)) end n
 
 abbrev μ-loop : tie.MeasureT-loop
 μ-loop store subject end n₀ n = end - n
@@ -22,11 +22,11 @@ some-raw-spec =
     Inv-loop
     μ-loop
     (λ c. search needs)  -- labels-end-requires
-    (λ c. raw-start _ _)  -- loop-holds
+    (λ c. raw-start _ _ (c .labels-end .ensures))  -- loop-holds
     (λ c. search needs)  -- is-raw-requires
-    (λ c. any-found (c .before .before .before .loop .inv) (search needs) (c .before .is-raw .ensures) (c .if1 .taken))  -- returns
+    (λ c. any-found (c .before .before .before .loop .inv) (c .before .before .loop-test .taken) (c .before .is-raw .ensures) (c .if1 .taken))  -- returns
     (λ c. search needs)  -- add-n
     (λ c. search needs)  -- loop-less
-    (λ c. any-next (c .before .before .before .loop .inv) (search needs) (c .before .is-raw .ensures) (c .if1 .left))  -- loop-again
-    (λ c. none-above (c .before .loop .inv) _ _ (c .before .before .labels-end .ensures) (c .loop-test .left) (λ n q. rw q))  -- returns-2
+    (λ c. any-next (c .before .before .before .loop .inv) (c .before .before .loop-test .taken) (c .before .is-raw .ensures) (c .if1 .left))  -- loop-again
+    (λ c. any-end (c .before .loop .inv) (c .loop-test .left))  -- returns-2
     )
