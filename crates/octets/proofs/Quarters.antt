@@ -36,7 +36,8 @@ or-four t w x y z =
     or-is-zero t (bitOr (bitOr w x) (bitOr y z))
     ∙ ap (λ (r : Bool). eqb t 0 && r) (or-is-zero (bitOr w x) (bitOr y z) ∙ ap₂ (λ (r s : Bool). r && s) (or-is-zero w x) (or-is-zero y z))
 
-crossed : (a b c d : Bool) → ((a && b) && (c && d)) ≡ ((a && c) && (b && d))
+-- pairs of tests taken the other way
+pub crossed : (a b c d : Bool) → ((a && b) && (c && d)) ≡ ((a && c) && (b && d))
 crossed false b c d = refl
 crossed true true c d = refl
 crossed true false c d = sym (and-false c)
@@ -96,7 +97,8 @@ zero-joined : (l m : List ℕ) → allZero (l ++ m) ≡ (allZero l && allZero m)
 zero-joined [] m = refl
 zero-joined (x ∷ l) m = ap (λ (t : Bool). eqb x 0 && t) (zero-joined l m) ∙ sym (and-assoc (eqb x 0) (allZero l) (allZero m))
 
-zero-parts : (a c e : ℕ) (l : List ℕ) → a ≤ c → c ≤ e → allZero (between a e l) ≡ (allZero (between a c l) && allZero (between c e l))
+-- a part that is zero in two parts
+pub zero-parts : (a c e : ℕ) (l : List ℕ) → a ≤ c → c ≤ e → allZero (between a e l) ≡ (allZero (between a c l) && allZero (between c e l))
 zero-parts a c e l h k = ap allZero (sym (between-join a c e l h k)) ∙ zero-joined (between a c l) (between c e l)
 
 -- the first four times q members are zero

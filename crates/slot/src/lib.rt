@@ -9,10 +9,10 @@ ghost use Prim.Native.Nat.{_+_, _*_, _<_, _≤_, min};
 ghost use lib.ListN.{length};
 ghost use Rattle.model.specs.Path.{endsIn, stepsOf, validPath};
 ghost use Rattle.model.specs.Value.{storable};
-ghost use Rattle.model.specs.Slot.{slotSize, depth, stepAt, valueLength, readPath, readContent, unusedZero};
+ghost use Rattle.model.specs.Slot.{slotSize, depth, stepAt, valueLength, readPath, readContent};
 ghost use Rattle.path.specs.Steps.{mayFollow, allFollow, KeyOf};
 ghost use Rattle.path.specs.Common.{Compared};
-ghost use Rattle.slot.specs.Slot.{validSlot, Readable};
+ghost use Rattle.slot.specs.Slot.{validSlot, mayStand, stepsZero, restZero, Readable};
 
 // How two paths compare: how many first steps they share, and whether the first comes before the second.
 pub struct Meeting {
@@ -85,16 +85,27 @@ fn step_follows(before: u8, slot: &[u8], i: usize) -> bool
     path::may_follow(before, slot[1 + 2 * i], slot[1 + 2 * i + 1], slot[13 + i])
 }
 
-// Whether the steps of a slot's path are valid and their labels ascend.
-fn steps_follow(slot: &[u8]) -> bool
-    requires { ⌜ Readable (now slot) ⌝ }
-    ensures { λ r. ⌜ r ≡ allFollow 0 (readPath (now (slot .entry))) ⌝ }
+// Whether place i of a slot holds what a path of d steps has there: a step that may follow one with the label before, or none.
+fn step_good(before: u8, slot: &[u8], i: usize, d: usize) -> bool
+    requires { ⌜ (length (now slot) ≡ slotSize) × (i < 6) ⌝ }
+    ensures { λ r. ⌜ r ≡ mayStand d before i (stepAt (now (slot .entry)) i) ⌝ }
 {
-    let n = depth(slot);
+    if i < d {
+        return step_follows(before, slot, i);
+    }
+    slot_key(slot, i) == 0
+}
+
+// Whether the steps of a slot's path are valid, their labels ascend, and the places behind them are 0. One loop over the six places.
+fn steps_good(slot: &[u8]) -> bool
+    requires { ⌜ Readable (now slot) ⌝ }
+    ensures { λ r. ⌜ r ≡ (allFollow 0 (readPath (now (slot .entry))) && stepsZero (now (slot .entry))) ⌝ }
+{
+    let d = depth(slot);
     let mut before: u8 = 0;
     let mut i: usize = 0;
-    while i < n {
-        if !step_follows(before, slot, i) {
+    while i < 6 {
+        if !step_good(before, slot, i, d) {
             return false;
         }
         before = step_label(slot, i);
@@ -103,10 +114,10 @@ fn steps_follow(slot: &[u8]) -> bool
     true
 }
 
-// Whether a slot's path is valid and ends in label n.
+// Whether a slot's path is valid and ends in label n, and the places behind its steps are 0.
 fn path_valid(slot: &[u8], n: u8) -> bool
     requires { ⌜ length (now slot) ≡ slotSize ⌝ }
-    ensures { λ r. ⌜ r ≡ (validPath (readPath (now (slot .entry))) && endsIn n (readPath (now (slot .entry)))) ⌝ }
+    ensures { λ r. ⌜ r ≡ ((validPath (readPath (now (slot .entry))) && endsIn n (readPath (now (slot .entry)))) && stepsZero (now (slot .entry))) ⌝ }
 {
     let d = depth(slot);
     if d < 1 {
@@ -115,7 +126,7 @@ fn path_valid(slot: &[u8], n: u8) -> bool
     if 6 < d {
         return false;
     }
-    if !steps_follow(slot) {
+    if !steps_good(slot) {
         return false;
     }
     step_label(slot, d - 1) == n
@@ -134,25 +145,13 @@ fn content_valid(slot: &[u8]) -> bool
     kind::is_allowed(octets::wide(slot[19]), &slot[21..end])
 }
 
-// Whether the bytes of a slot that its path and value leave unused are 0.
-fn unused_zero(slot: &[u8]) -> bool
-    requires { ⌜ Readable (now slot) × (valueLength (now slot) ≤ 16) ⌝ }
-    ensures { λ r. ⌜ r ≡ unusedZero (now (slot .entry)) ⌝ }
+// Whether the bytes of a slot behind its value are 0.
+fn rest_zero(slot: &[u8]) -> bool
+    requires { ⌜ (length (now slot) ≡ slotSize) × (valueLength (now slot) ≤ 16) ⌝ }
+    ensures { λ r. ⌜ r ≡ restZero (now (slot .entry)) ⌝ }
 {
-    let d = depth(slot);
-    let names = 1 + 2 * d;
-    let labels = 13 + d;
-    let value = 21 + value_length(slot);
-    if !octets::is_zero(&slot[names..13]) {
-        return false;
-    }
-    if !octets::is_zero(&slot[labels..19]) {
-        return false;
-    }
-    if !octets::is_zero(&slot[value..37]) {
-        return false;
-    }
-    octets::is_zero(&slot[37..40])
+    let n = value_length(slot);
+    octets::tail_zero(&slot[21..40], n)
 }
 
 // Whether a slot holds a valid element of label n, its unused bytes zero.
@@ -166,7 +165,7 @@ pub fn is_valid(slot: &[u8], n: u8) -> bool
     if !content_valid(slot) {
         return false;
     }
-    unused_zero(slot)
+    rest_zero(slot)
 }
 
 // The lesser of two numbers.

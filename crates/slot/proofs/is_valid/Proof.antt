@@ -1,6 +1,7 @@
--- `slot::is_valid`: path, content, unused bytes.
+-- `slot::is_valid`: path, content, the bytes behind the value.
 use borrow.Author.Needs.{needs}
-use Rattle.slot.proofs.Reading.{no-path, no-content, by-unused, short-steps, short-value}
+use mathlib.Core.Path.{refl}
+use Rattle.slot.proofs.Reading.{no-path, path-good, no-content, by-rest, short-value}
 use Rattle.slot.proofs.is_valid.Statement.{statement}
 use Rattle.slot.proofs.is_valid.Tie as tie
 
@@ -13,10 +14,8 @@ is-valid-spec =
     (λ c. search needs)  -- content-valid-requires
     (λ c. no-content _ _ (c .before .before .before .path-valid .ensures) (c .before .before .if1 .left) (c .before .content-valid .ensures) (c .if2 .taken))  -- returns-2
     (λ c κs.
-    let p = c .before .before .before .path-valid .ensures in
-    let q = c .before .content-valid .ensures in (
-      record { size = c .before .before .before .before .before .pre; steps = short-steps _ _ p (c .before .before .if1 .left) q (c .if2 .left) },
-      short-value _ _ p (c .before .before .if1 .left) q (c .if2 .left) (c .before .before .before .before .before .pre),
-    ))  -- unused-zero-requires
-    (λ c. by-unused _ _ (c .before .before .before .before .path-valid .ensures) (c .before .before .before .if1 .left) (c .before .before .content-valid .ensures) (c .before .if2 .left) (c .unused-zero .ensures))  -- returns-3
+    let size = c .before .before .before .before .before .pre in
+    let path = path-good _ _ (c .before .before .before .path-valid .ensures) (c .before .before .if1 .left) in
+    (size, short-value _ _ path refl (c .before .content-valid .ensures) (c .if2 .left) size))  -- rest-zero-requires
+    (λ c. by-rest _ _ (c .before .before .before .before .path-valid .ensures) (c .before .before .before .if1 .left) (c .before .before .content-valid .ensures) (c .before .if2 .left) (c .rest-zero .ensures))  -- returns-3
     )
