@@ -20,7 +20,7 @@ use Rattle.model.specs.View.{inView}
 use Rattle.model.specs.Call.{Row, row, goodPath, someRaw, refusal, callerRows, ownLiveRows, opRows, table, subjectOf, Op, insert, update, delete}
 use Rattle.model.proofs.Bools.{and-l, and-r, not-not}
 use Rattle.model.proofs.Rows.{Passes, passes}
-use Rattle.model.proofs.Dominance.{dominates-refl}
+use Rattle.model.proofs.Dominance.{label-lt, dominates-refl}
 use Rattle.model.proofs.Restriction.{live-own}
 use Rattle.partition.specs.Place.{Found}
 use Rattle.partition.proofs.Layouts.{length-elements}
@@ -28,7 +28,7 @@ use Rattle.store.specs.Opened.{Opened, Own}
 use Rattle.store.proofs.Parts.{held-formed}
 use Rattle.store.proofs.Viewing.{opened-formed, opened-set}
 use Rattle.store.proofs.Lending.{own-part}
-use Rattle.dossier.specs.Rows.{codeOf, rowCode, by, bringRows, placeRows, openingRows}
+use Rattle.dossier.specs.Rows.{codeOf, rowCode, by, bringRows, placeRows, lentRows, rawRows, openingRows}
 
 -- a row that applies, and one that does not
 pub code-yes : (k : ℕ) (t : Bool) (rs : List Row) → t ≡ true → rowCode (row k t ∷ rs) ≡ k
@@ -83,30 +83,45 @@ code-front front rest e = go (rowCode front) refl
 -- ---- rows 1, 2 and 3
 
 module _ (s : ℕ) (b : List ℕ) where
-  pub row-one : (length b ≡ storeSize → ⊥) → 1 ≡ rowCode (openingRows s (openModel b))
+  pub row-one : (length b ≡ storeSize → ⊥) → 1 ≡ rowCode (lentRows s (openModel b))
   unfolding openModel
   row-one h = sym (code-yes 1 (not (eqb (length b) storeSize)) _ (ap not (ne-eqb (length b) storeSize h)))
 
   module _ (size : length b ≡ storeSize) where
-    past-one : rowCode (openingRows s (openModel b)) ≡ rowCode (row 2 (not (isLabel s)) ∷ row 3 (someRaw s (openModel b)) ∷ [])
+    past-one : rowCode (lentRows s (openModel b)) ≡ rowCode (row 2 (not (isLabel s)) ∷ [])
     unfolding openModel
     past-one = code-no 1 (not (eqb (length b) storeSize)) _ (ap not (eq-eqb (length b) storeSize size))
 
-    pub row-two : 32 ≤ s → 2 ≡ rowCode (openingRows s (openModel b))
+    pub row-two : 32 ≤ s → 2 ≡ rowCode (lentRows s (openModel b))
     unfolding isLabel
-    row-two h = sym (past-one ∙ code-yes 2 (not (isLabel s)) _ (ap not (le-ltb s 32 h)))
+    row-two h = sym (past-one ∙ code-yes 2 (not (isLabel s)) [] (ap not (le-ltb s 32 h)))
 
-    module _ (small : s < 32) where
-      past-two : rowCode (openingRows s (openModel b)) ≡ rowCode (row 3 (someRaw s (openModel b)) ∷ [])
-      unfolding isLabel
-      past-two = past-one ∙ code-no 2 (not (isLabel s)) _ (ap not (lt-ltb s 32 small))
+    pub lent-none : s < 32 → 0 ≡ rowCode (lentRows s (openModel b))
+    unfolding isLabel refusal
+    lent-none h = sym (past-one ∙ code-no 2 (not (isLabel s)) [] (ap not (lt-ltb s 32 h)))
 
-      pub row-three : {r : Bool} → r ≡ someRaw s (openModel b) → r ≡ true → 3 ≡ rowCode (openingRows s (openModel b))
-      row-three e t = sym (past-two ∙ code-yes 3 (someRaw s (openModel b)) [] (sym e ∙ t))
+  module _ {r : Bool} (e : r ≡ someRaw s (openModel b)) where
+    pub row-three : r ≡ true → 3 ≡ rowCode (rawRows s (openModel b))
+    row-three t = sym (code-yes 3 (someRaw s (openModel b)) [] (sym e ∙ t))
 
-      pub no-row : {r : Bool} → r ≡ someRaw s (openModel b) → r ≡ false → 0 ≡ rowCode (openingRows s (openModel b))
-      unfolding refusal
-      no-row e t = sym (past-two ∙ code-no 3 (someRaw s (openModel b)) [] (sym e ∙ t))
+    pub raw-none : r ≡ false → 0 ≡ rowCode (rawRows s (openModel b))
+    unfolding refusal
+    raw-none t = sym (code-no 3 (someRaw s (openModel b)) [] (sym e ∙ t))
+
+  -- the three, one after another
+  module _ {l : ℕ} (e : l ≡ rowCode (lentRows s (openModel b))) where
+    pub lent-stops : (l ≡ 0 → ⊥) → l ≡ rowCode (openingRows s (openModel b))
+    lent-stops h = e ∙ code-stop (lentRows s (openModel b)) (rawRows s (openModel b)) (λ k. h (e ∙ k))
+
+    module _ (z : l ≡ 0) where
+      pub lent-passed : (length b ≡ storeSize) × (s < 32)
+      unfolding openModel
+      lent-passed =
+          let p : Passes (lentRows s (openModel b)) = passes (lentRows s (openModel b)) (code-none (lentRows s (openModel b)) tt (sym e ∙ z)) in
+          (eqb-yes (not-not (eqb (length b) storeSize) (p .0)), label-lt s (not-not (isLabel s) (p .1 .0)))
+
+      pub raw-behind : {r : ℕ} → r ≡ rowCode (rawRows s (openModel b)) → r ≡ rowCode (openingRows s (openModel b))
+      raw-behind f = f ∙ sym (code-past (lentRows s (openModel b)) (rawRows s (openModel b)) tt (sym e ∙ z))
 
 -- where none of them applies the store is open
 pub code-opened : (s : ℕ) (b : List ℕ) → rowCode (openingRows s (openModel b)) ≡ 0 → Opened b s

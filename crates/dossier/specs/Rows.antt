@@ -35,9 +35,17 @@ abbrev pub placeRows : ℕ → Model → List Step → List Row
 placeRows s m p =
     row 6 (not (endsIn s p)) ∷ row 7 (not (inView s m (parent p))) ∷ row 8 (live m p) ∷ row 9 (leb 32 (length (ownSet s m))) ∷ []
 
+-- rows 1 and 2: the store's length, and the subject
+abbrev pub lentRows : ℕ → Model → List Row
+lentRows s m = row 1 (not (eqb (m .size) storeSize)) ∷ row 2 (not (isLabel s)) ∷ []
+
+-- row 3: the partitions that the subject dominates
+abbrev pub rawRows : ℕ → Model → List Row
+rawRows s m = row 3 (someRaw s m) ∷ []
+
 -- rows 1, 2 and 3, which every call has first
 abbrev pub openingRows : ℕ → Model → List Row
-openingRows s m = row 1 (not (eqb (m .size) storeSize)) ∷ row 2 (not (isLabel s)) ∷ row 3 (someRaw s m) ∷ []
+openingRows s m = lentRows s m ++ rawRows s m
 
 -- rows 4 and 7 of a view: the path, which may be the root, and whether it is in view
 abbrev pub seenRows : ℕ → Model → List ℕ → List Row

@@ -4,15 +4,16 @@ ghost use mathlib.Core.Bool.{_||_};
 ghost use lib.ListN.{length};
 ghost use lib.Dec.{T, eqb};
 ghost use Rattle.model.specs.Path.{stepsOf};
+ghost use Rattle.model.specs.Store.{storeSize};
 ghost use Rattle.model.specs.Model.{openModel};
 ghost use Rattle.model.specs.Call.{goodPath, ownLiveRows, table};
 ghost use Rattle.model.specs.Call as calls;
 ghost use Rattle.store.specs.Opened.{Opened};
-ghost use Rattle.dossier.specs.Rows.{rowCode, by, bringRows, placeRows, openingRows, seenRows, viewRows};
+ghost use Rattle.dossier.specs.Rows.{rowCode, by, bringRows, placeRows, lentRows, rawRows, seenRows, viewRows};
 
-// Rows 1, 2 and 3: the number of the first that applies, or 0.
-fn opening_row(store: &[u8], subject: u32) -> u32
-    ensures { λ r. ⌜ r ≡ rowCode (openingRows subject (openModel (now (store .entry)))) ⌝ }
+// Rows 1 and 2: the store's length, then the subject.
+fn lent_row(store: &[u8], subject: u32) -> u32
+    ensures { λ r. ⌜ r ≡ rowCode (lentRows subject (openModel (now (store .entry)))) ⌝ }
 {
     if store.len() != 41088 {
         return 1;
@@ -20,7 +21,15 @@ fn opening_row(store: &[u8], subject: u32) -> u32
     if 32 <= subject {
         return 2;
     }
-    if store::some_raw(store, subject as u8) {
+    0
+}
+
+// Row 3: the partitions that the subject dominates.
+fn raw_row(store: &[u8], subject: u8) -> u32
+    requires { ⌜ length (now store) ≡ storeSize ⌝ }
+    ensures { λ r. ⌜ r ≡ rowCode (rawRows subject (openModel (now (store .entry)))) ⌝ }
+{
+    if store::some_raw(store, subject) {
         return 3;
     }
     0
@@ -81,7 +90,11 @@ fn place_row(store: &[u8], subject: u8, path: &[u8]) -> u32
 pub fn insert_row(store: &[u8], subject: u32, path: &[u8], kind: u32, value: &[u8]) -> u32
     ensures { λ r. ⌜ r ≡ rowCode (table (by subject (calls.insert (now (path .entry)) (record { kind = kind; value = now (value .entry) }))) (openModel (now (store .entry)))) ⌝ }
 {
-    let r = opening_row(store, subject);
+    let l = lent_row(store, subject);
+    if l != 0 {
+        return l;
+    }
+    let r = raw_row(store, subject as u8);
     if r != 0 {
         return r;
     }
@@ -96,7 +109,11 @@ pub fn insert_row(store: &[u8], subject: u32, path: &[u8], kind: u32, value: &[u
 pub fn update_row(store: &[u8], subject: u32, path: &[u8], kind: u32, value: &[u8]) -> u32
     ensures { λ r. ⌜ r ≡ rowCode (table (by subject (calls.update (now (path .entry)) (record { kind = kind; value = now (value .entry) }))) (openModel (now (store .entry)))) ⌝ }
 {
-    let r = opening_row(store, subject);
+    let l = lent_row(store, subject);
+    if l != 0 {
+        return l;
+    }
+    let r = raw_row(store, subject as u8);
     if r != 0 {
         return r;
     }
@@ -111,7 +128,11 @@ pub fn update_row(store: &[u8], subject: u32, path: &[u8], kind: u32, value: &[u
 pub fn delete_row(store: &[u8], subject: u32, path: &[u8]) -> u32
     ensures { λ r. ⌜ r ≡ rowCode (table (by subject (calls.delete (now (path .entry)))) (openModel (now (store .entry)))) ⌝ }
 {
-    let r = opening_row(store, subject);
+    let l = lent_row(store, subject);
+    if l != 0 {
+        return l;
+    }
+    let r = raw_row(store, subject as u8);
     if r != 0 {
         return r;
     }
@@ -149,7 +170,11 @@ fn seen_row(store: &[u8], subject: u8, path: &[u8]) -> u32
 pub fn view_row(store: &[u8], subject: u32, path: &[u8]) -> u32
     ensures { λ r. ⌜ r ≡ rowCode (viewRows subject (openModel (now (store .entry))) (now (path .entry))) ⌝ }
 {
-    let r = opening_row(store, subject);
+    let l = lent_row(store, subject);
+    if l != 0 {
+        return l;
+    }
+    let r = raw_row(store, subject as u8);
     if r != 0 {
         return r;
     }

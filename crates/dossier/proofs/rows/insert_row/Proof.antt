@@ -2,9 +2,19 @@
 use borrow.Author.Needs.{needs}
 use mathlib.Core.Path.{sym, _∙_}
 use native.Mathlib.Omega.{arith}
+use Rattle.model.specs.Value.{Content}
 use Rattle.model.specs.Call.{insert}
-use Rattle.model.proofs.Dominance.{label-lt}
-use Rattle.dossier.proofs.Walking.{code-opened, code-brought, opening-stops, opening-passes, insert-stops, insert-behind}
+use Rattle.dossier.proofs.Walking.{
+  lent-stops,
+  lent-passed,
+  raw-behind,
+  code-opened,
+  code-brought,
+  opening-stops,
+  opening-passes,
+  insert-stops,
+  insert-behind,
+}
 use Rattle.dossier.proofs.rows.insert_row.Statement.{statement}
 use Rattle.dossier.proofs.rows.insert_row.Tie as tie
 
@@ -12,11 +22,32 @@ pub insert-row-spec : {M : Type 1} → statement M
 insert-row-spec =
     tie.close
     (tie.spec
-    (λ c. search needs)  -- opening-row-requires
-    (λ c. opening-stops _ _ (insert (c .before .before .before .before .before .args .path .now) (record { kind = c .before .before .before .before .before .args .kind; value = c .before .before .before .before .before .args .value .now })) (c .before .opening-row .ensures) (c .if1 .taken))  -- returns
+    (λ c. search needs)  -- lent-row-requires
+    (λ c.
+    let start = c .before .before .before .before .before in
+    let w : Content = record { kind = start .args .kind; value = start .args .value .now } in
+    opening-stops _ _ (insert (start .args .path .now) w) (lent-stops _ _ (c .before .lent-row .ensures) (c .if1 .taken)) (c .if1 .taken))  -- returns
+    (λ c. omega (arith, lent-passed _ (c .before .before .before .before .before .args .store .now) (c .before .lent-row .ensures) (c .if1 .left) .1))  -- cast-raw-row
+    (λ c κs. lent-passed _ (c .before .before .before .before .before .args .store .now) (c .before .lent-row .ensures) (c .if1 .left) .0)  -- raw-row-requires
+    (λ c.
+    let start = c .before .before .before .before .before .before .before in
+    let w : Content = record { kind = start .args .kind; value = start .args .value .now } in
+    opening-stops _ _ (insert (start .args .path .now) w) (raw-behind _ _ (c .before .before .before .lent-row .ensures) (c .before .before .if1 .left) (c .before .raw-row .ensures)) (c .if2 .taken))  -- returns-2
     (λ c. search needs)  -- bring-row-requires
-    (λ c. opening-passes _ _ (insert (c .before .before .before .before .before .before .before .args .path .now) (record { kind = c .before .before .before .before .before .before .before .args .kind; value = c .before .before .before .before .before .before .before .args .value .now })) (c .before .before .before .opening-row .ensures) (c .before .before .if1 .left) (insert-stops _ (c .before .before .before .before .before .before .before .args .store .now) (c .before .before .before .before .before .before .before .args .path .now) (record { kind = c .before .before .before .before .before .before .before .args .kind; value = c .before .before .before .before .before .before .before .args .value .now }) (c .before .bring-row .ensures) (c .if2 .taken)))  -- returns-2
-    (λ c. omega (arith, label-lt _ ((code-opened _ _ (sym (c .before .before .before .opening-row .ensures) ∙ c .before .before .if1 .left)) .label)))  -- cast-place-row
-    (λ c κs. (code-opened _ _ (sym (c .before .before .before .opening-row .ensures) ∙ c .before .before .if1 .left), code-brought (c .before .before .before .before .before .before .before .args .path .now) (record { kind = c .before .before .before .before .before .before .before .args .kind; value = c .before .before .before .before .before .before .before .args .value .now }) (sym (c .before .bring-row .ensures) ∙ c .if2 .left) .path))  -- place-row-requires
-    (λ c. opening-passes _ _ (insert (c .before .before .before .before .before .before .before .before .args .path .now) (record { kind = c .before .before .before .before .before .before .before .before .args .kind; value = c .before .before .before .before .before .before .before .before .args .value .now })) (c .before .before .before .before .opening-row .ensures) (c .before .before .before .if1 .left) (insert-behind _ (c .before .before .before .before .before .before .before .before .args .store .now) (c .before .before .before .before .before .before .before .before .args .path .now) (record { kind = c .before .before .before .before .before .before .before .before .args .kind; value = c .before .before .before .before .before .before .before .before .args .value .now }) (c .before .before .bring-row .ensures) (c .before .if2 .left) (c .place-row .ensures)))  -- returns-3
+    (λ c.
+    let start = c .before .before .before .before .before .before .before .before .before in
+    let w : Content = record { kind = start .args .kind; value = start .args .value .now } in
+    opening-passes _ _ (insert (start .args .path .now) w) (raw-behind _ _ (c .before .before .before .before .before .lent-row .ensures) (c .before .before .before .before .if1 .left) (c .before .before .before .raw-row .ensures)) (c .before .before .if2 .left)
+    (insert-stops _ (start .args .store .now) (start .args .path .now) w (c .before .bring-row .ensures) (c .if3 .taken)))  -- returns-3
+    (λ c. omega (arith, lent-passed _ (c .before .before .before .before .before .before .before .before .before .args .store .now) (c .before .before .before .before .before .lent-row .ensures) (c .before .before .before .before .if1 .left) .1))  -- cast-place-row
+    (λ c κs.
+    let start = c .before .before .before .before .before .before .before .before .before in
+    let w : Content = record { kind = start .args .kind; value = start .args .value .now } in
+    let e = raw-behind _ (start .args .store .now) (c .before .before .before .before .before .lent-row .ensures) (c .before .before .before .before .if1 .left) (c .before .before .before .raw-row .ensures) in
+    (code-opened _ _ (sym e ∙ c .before .before .if2 .left), code-brought (start .args .path .now) w (sym (c .before .bring-row .ensures) ∙ c .if3 .left) .path))  -- place-row-requires
+    (λ c.
+    let start = c .before .before .before .before .before .before .before .before .before .before in
+    let w : Content = record { kind = start .args .kind; value = start .args .value .now } in
+    opening-passes _ _ (insert (start .args .path .now) w) (raw-behind _ _ (c .before .before .before .before .before .before .lent-row .ensures) (c .before .before .before .before .before .if1 .left) (c .before .before .before .before .raw-row .ensures)) (c .before .before .before .if2 .left)
+    (insert-behind _ (start .args .store .now) (start .args .path .now) w (c .before .before .bring-row .ensures) (c .before .if3 .left) (c .place-row .ensures)))  -- returns-4
     )

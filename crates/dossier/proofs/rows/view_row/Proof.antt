@@ -2,8 +2,7 @@
 use borrow.Author.Needs.{needs}
 use mathlib.Core.Path.{sym, _∙_}
 use native.Mathlib.Omega.{arith}
-use Rattle.model.proofs.Dominance.{label-lt}
-use Rattle.dossier.proofs.Walking.{code-opened}
+use Rattle.dossier.proofs.Walking.{lent-stops, lent-passed, raw-behind, code-opened}
 use Rattle.dossier.proofs.Seeing.{opened-stops, opened-passes}
 use Rattle.dossier.proofs.rows.view_row.Statement.{statement}
 use Rattle.dossier.proofs.rows.view_row.Tie as tie
@@ -12,9 +11,20 @@ pub view-row-spec : {M : Type 1} → statement M
 view-row-spec =
     tie.close
     (tie.spec
-    (λ c. search needs)  -- opening-row-requires
-    (λ c. opened-stops _ (c .before .before .before .before .args .store .now) (c .before .before .before .before .args .path .now) (c .before .opening-row .ensures) (c .if1 .taken))  -- returns
-    (λ c. omega (arith, label-lt _ ((code-opened _ _ (sym (c .before .opening-row .ensures) ∙ c .if1 .left)) .label)))  -- cast-seen-row
-    (λ c κs. code-opened _ _ (sym (c .before .opening-row .ensures) ∙ c .if1 .left))  -- seen-row-requires
-    (λ c. opened-passes _ (c .before .before .before .before .before .args .store .now) (c .before .before .before .before .before .args .path .now) (c .before .before .opening-row .ensures) (c .before .if1 .left) (c .seen-row .ensures))  -- returns-2
+    (λ c. search needs)  -- lent-row-requires
+    (λ c.
+    let start = c .before .before .before .before in
+    opened-stops _ (start .args .store .now) (start .args .path .now) (lent-stops _ _ (c .before .lent-row .ensures) (c .if1 .taken)) (c .if1 .taken))  -- returns
+    (λ c. omega (arith, lent-passed _ (c .before .before .before .before .args .store .now) (c .before .lent-row .ensures) (c .if1 .left) .1))  -- cast-raw-row
+    (λ c κs. lent-passed _ (c .before .before .before .before .args .store .now) (c .before .lent-row .ensures) (c .if1 .left) .0)  -- raw-row-requires
+    (λ c.
+    let start = c .before .before .before .before .before .before in
+    opened-stops _ (start .args .store .now) (start .args .path .now) (raw-behind _ _ (c .before .before .before .lent-row .ensures) (c .before .before .if1 .left) (c .before .raw-row .ensures)) (c .if2 .taken))  -- returns-2
+    (λ c. omega (arith, lent-passed _ (c .before .before .before .before .before .before .args .store .now) (c .before .before .before .lent-row .ensures) (c .before .before .if1 .left) .1))  -- cast-seen-row
+    (λ c κs.
+    let e = raw-behind _ (c .before .before .before .before .before .before .args .store .now) (c .before .before .before .lent-row .ensures) (c .before .before .if1 .left) (c .before .raw-row .ensures) in
+    code-opened _ _ (sym e ∙ c .if2 .left))  -- seen-row-requires
+    (λ c.
+    let start = c .before .before .before .before .before .before .before in
+    opened-passes _ (start .args .store .now) (start .args .path .now) (raw-behind _ _ (c .before .before .before .before .lent-row .ensures) (c .before .before .before .if1 .left) (c .before .before .raw-row .ensures)) (c .before .if2 .left) (c .seen-row .ensures))  -- returns-3
     )
