@@ -16,6 +16,7 @@ use Rattle.model.specs.Model.{openModel, ownSet}
 use Rattle.model.specs.Call.{Call, Op, subject, subjectOf, view, insert, update, delete, extending, table, refusal, refused, done, effect, outcome, outcomeBy}
 use Rattle.model.specs.Run.{answerOf, outputAfter}
 use Rattle.model.specs.Script.{contentOf, outputSpace}
+use Rattle.model.proofs.Sets.{length-keep}
 use Rattle.model.proofs.Keeps.{open-valid}
 use Rattle.model.proofs.Refusals.{view-fits}
 use Rattle.text.specs.Overlay.{overlay}
@@ -152,17 +153,9 @@ on-call r e p l = ap (λ (c : read.Call). by (r .subject) (opOn c p l)) e
 
 -- ---- it answers small numbers and writes no more than it was lent
 
-keep-fewer : (f : Element → Bool) (l : List Element) → length (keep f l) ≤ length l
-keep-fewer f [] = omega arith
-keep-fewer f (e ∷ l) = go (f e) (keep-fewer f l)
-  where
-    go : (t : Bool) → length (keep f l) ≤ length l → length (cond t (e ∷ keep f l) (keep f l)) ≤ suc (length l)
-    go true h = omega arith
-    go false h = omega arith
-
 extending-few : (p : List Step) (s : ℕ) (b : List ℕ) → extending p (ownSet s (openModel b)) ≤ 16384
 unfolding extending
-extending-few p s b = omega (arith, keep-fewer (λ e. isPrefix p (e .path)) (ownSet s (openModel b)), open-valid b s .few)
+extending-few p s b = omega (arith, length-keep (λ e. isPrefix p (e .path)) (ownSet s (openModel b)), open-valid b s .few)
 
 pub answer-small : (s : ℕ) (k : read.Call) (p l b : List ℕ)
     → (answerOf (by s (opOn k p l)) b .count ≤ 16384) × (length (answerOf (by s (opOn k p l)) b .written) ≤ 16384)

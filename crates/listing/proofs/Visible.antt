@@ -14,11 +14,10 @@ use Rattle.model.specs.Element.{Element, rank, validElement}
 use Rattle.model.specs.Model.{openModel, ownSet}
 use Rattle.model.specs.View.{visible, headLine, listingOf, listing}
 use Rattle.model.proofs.Bools.{and-l, and-r}
-use Rattle.model.proofs.Members.{_∈_, all-in}
+use Rattle.model.proofs.Members.{_∈_, all-in, keep-append}
 use Rattle.model.proofs.Keeps.{open-valid, visible-in}
 use Rattle.model.proofs.Marks.{own-one}
 use Rattle.order.specs.Refs.{seenAt, orderedOf, ordered}
-use Rattle.order.proofs.Labels.{keep-append}
 use Rattle.listing.specs.Walk.{under, walk, walkLines}
 use Rattle.listing.proofs.Walks.{Distinct, walk-listed}
 use Rattle.listing.proofs.Printed.{walk-printed}

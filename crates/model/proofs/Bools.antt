@@ -23,6 +23,11 @@ pub or-r : (a b : Bool) → T b → T (a || b)
 or-r true b t = tt
 or-r false b t = t
 
+-- where the first holds, it is the second that does not
+pub not-second : (a b : Bool) → T a → T (not (a && b)) → T (not b)
+not-second true b s t = t
+not-second false b s t = absurd s
+
 pub not-not : (a : Bool) → T (not (not a)) → T a
 not-not true t = tt
 not-not false t = t

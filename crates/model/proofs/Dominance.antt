@@ -85,6 +85,10 @@ dominates-antisym l m s t =
     let b : Above m l = above m l t in
     omega (arith, parts l, parts m)
 
+-- a label is not greater than one that dominates it
+pub dominates-le : (l m : ℕ) → T (dominates l m) → m ≤ l
+dominates-le l m t = let a : Above l m = above l m t in omega (arith, parts l, parts m)
+
 -- label 31 dominates every label
 pub top-label : (n : ℕ) → T (isLabel n) → T (dominates 31 n)
 unfolding isLabel level sizing fabric cost

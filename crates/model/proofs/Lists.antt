@@ -193,3 +193,20 @@ module _ {A : Type 0} where
   take-range g zero i n h = refl
   take-range g (suc k) i zero h = absurd (omega arith)
   take-range g (suc k) i (suc n) h = ap (λ (l : List A). g i ∷ l) (take-range g k (suc i) n (omega arith))
+
+  -- the last of a range
+  pub range-last : (g : ℕ → A) (i n : ℕ) → range g i (suc n) ≡ range g i n ++ (g (i + n) ∷ [])
+  range-last g i zero = let e : i + 0 ≡ i = omega arith in rw e
+  range-last g i (suc n) = let e : i + suc n ≡ suc i + n = omega arith in rw e (ap (λ (l : List A). g i ∷ l) (range-last g (suc i) n))
+
+  -- a range in two parts
+  pub range-split : (g : ℕ → A) (i k n : ℕ) → k ≤ n → range g i n ≡ range g i k ++ range g (i + k) (n - k)
+  range-split g i zero n h =
+      let x : i + 0 ≡ i = omega arith in
+      let y : n - 0 ≡ n = omega arith in
+      rw (x, y)
+  range-split g i (suc k) zero h = absurd (omega arith)
+  range-split g i (suc k) (suc n) h =
+      let x : i + suc k ≡ suc i + k = omega arith in
+      let y : suc n - suc k ≡ n - k = omega arith in
+      rw (x, y) (ap (λ (l : List A). g i ∷ l) (range-split g (suc i) k n (omega arith)))

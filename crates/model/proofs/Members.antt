@@ -68,6 +68,19 @@ module _ {A : Type 0} where
       there t (inl e) f = (List·Memᴰ·head e, rw e t)
       there t (inr k) f = (List·Memᴰ·tail (f k .0), f k .1)
 
+  pub keep-append : (p : A → Bool) (l m : List A) → keep p (l ++ m) ≡ keep p l ++ keep p m
+  keep-append p [] m = refl
+  keep-append p (x ∷ l) m =
+      decide (p x)
+      (λ (t : T (p x)).
+      cond-yes (p x) (x ∷ keep p (l ++ m)) (keep p (l ++ m)) t
+      ∙ ap (λ (r : List A). x ∷ r) (keep-append p l m)
+      ∙ sym (ap (λ (r : List A). r ++ keep p m) (cond-yes (p x) (x ∷ keep p l) (keep p l) t)))
+      (λ (t : T (not (p x))).
+      cond-no (p x) (x ∷ keep p (l ++ m)) (keep p (l ++ m)) t
+      ∙ keep-append p l m
+      ∙ sym (ap (λ (r : List A). r ++ keep p m) (cond-no (p x) (x ∷ keep p l) (keep p l) t)))
+
   pub in-keep : (p : A → Bool) (l : List A) {x : A} → x ∈ l → T (p x) → x ∈ keep p l
   in-keep p [] m t = absurd (List·Memᴰ·not-nil m)
   in-keep p (y ∷ l) {x} m t = go (List·Memᴰ·cases-cons m) (λ (k : x ∈ l). in-keep p l k t)

@@ -11,7 +11,7 @@ use lib.Dec.{T, eqb, ltb, eqb-refl}
 use mir.Facts.{not-T, no-ltb, or-yes, or-no, eqb-yes, yes-eqb, ltb-yes, ltb-no, yes-ltb}
 use Rattle.model.specs.Lists.{all, keep}
 use Rattle.model.specs.Sets.{precedes, ascending, put, sort}
-use Rattle.model.proofs.Bools.{and-l, and-r, both, or-l, or-r, decide, cond-yes, cond-no, is-true, is-false}
+use Rattle.model.proofs.Bools.{and-l, and-r, both, not-second, or-l, or-r, decide, cond-yes, cond-no, is-true, is-false}
 use Rattle.model.proofs.Members.{_∈_, in-front, in-back, all-in, in-all, keep-in}
 
 pub precedes-trans : (x y z : List ℕ) → T (precedes x y) → T (precedes y z) → T (precedes x z)
@@ -48,11 +48,7 @@ precedes-total (a ∷ x) (b ∷ y) s t =
     let v : a ≤ b = ltb-no (t′ .0) in
     let e : a ≡ b = omega arith in
     let f : b ≡ a = omega arith in
-    ap₂ (λ (c : ℕ) (z : List ℕ). c ∷ z) e (precedes-total x y (rest (eqb a b) (precedes x y) (yes-eqb e) (s′ .1)) (rest (eqb b a) (precedes y x) (yes-eqb f) (t′ .1)))
-  where
-    rest : (p q : Bool) → T p → T (not (p && q)) → T (not q)
-    rest true q h k = k
-    rest false q h k = absurd h
+    ap₂ (λ (c : ℕ) (z : List ℕ). c ∷ z) e (precedes-total x y (not-second (eqb a b) (precedes x y) (yes-eqb e) (s′ .1)) (not-second (eqb b a) (precedes y x) (yes-eqb f) (t′ .1)))
 
 pub precedes-irrefl : (x : List ℕ) → T (precedes x x) → ⊥
 precedes-irrefl [] t = t

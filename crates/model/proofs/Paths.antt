@@ -12,7 +12,7 @@ use mir.Facts.{or-no, eqb-yes, yes-eqb, ltb-no, T-not}
 use Rattle.model.specs.Sets.{precedes}
 use Rattle.model.specs.Label.{isLabel, dominates}
 use Rattle.model.specs.Path.{Step, sameStep, samePath, isPrefix, prefixes, parent, endsIn, labelsAscend, key, keys}
-use Rattle.model.proofs.Bools.{and-l, and-r, both}
+use Rattle.model.proofs.Bools.{and-l, and-r, both, not-second}
 use Rattle.model.proofs.Members.{_∈_, map-in, in-map}
 use Rattle.model.proofs.Dominance.{dominates-refl, dominates-trans}
 use Rattle.model.proofs.Order.{precedes-total, precedes-cancel}
@@ -165,13 +165,9 @@ squeezed (a ∷ x) (b ∷ y) u v w l s t =
     let k : b ≤ a = ltb-no (t′ .0) in
     let e : a ≡ b = omega arith in
     let f : b ≡ a = omega arith in
-    let r = squeezed x y u v w (omega arith) (rest (eqb b a) (precedes (y ++ v) (x ++ u)) (yes-eqb f) (s′ .1))
-    (rest (eqb a b) (precedes (x ++ w) (y ++ v)) (yes-eqb e) (t′ .1)) in
+    let r = squeezed x y u v w (omega arith) (not-second (eqb b a) (precedes (y ++ v) (x ++ u)) (yes-eqb f) (s′ .1))
+    (not-second (eqb a b) (precedes (x ++ w) (y ++ v)) (yes-eqb e) (t′ .1)) in
     (ap₂ (λ (c : ℕ) (z : List ℕ). c ∷ z) e (r .0), r .1, r .2)
-  where
-    rest : (p q : Bool) → T p → T (not (p && q)) → T (not q)
-    rest true q h k = k
-    rest false q h k = absurd h
 
 -- paths by the order of a key
 module _ (k : Step → List ℕ) (good : Keyed k) where

@@ -6,13 +6,7 @@ use native.Mathlib.Omega.{arith}
 use lib.ListN.{length, getD, drop, set, length-append, length-drop}
 use lib.Seq.{drop-cons, set-append-seam}
 use Rattle.model.specs.Lists.{range}
-use Rattle.model.proofs.Lists.{length-range}
-
-pub range-last : (i k : ℕ) → range (λ n. n) i (suc k) ≡ range (λ n. n) i k ++ ((i + k) ∷ [])
-range-last i zero = let e : i ≡ i + 0 = omega arith in ap (λ (n : ℕ). n ∷ []) e
-range-last i (suc k) =
-    let e : suc i + k ≡ i + suc k = omega arith in
-    ap (λ (l : List ℕ). i ∷ l) (range-last (suc i) k ∙ ap (λ (n : ℕ). range (λ m. m) (suc i) k ++ (n ∷ [])) e)
+use Rattle.model.proofs.Lists.{length-range, range-last}
 
 pub record Counted (refs₀ : List ℕ) (first k : ℕ) (refs : List ℕ) (i : ℕ) : Type 0 where
   pub within : i ≤ k
@@ -42,7 +36,7 @@ module _ {refs₀ refs : List ℕ} {first k i : ℕ} (inv : Counted refs₀ firs
             ∙ set-append-seam (range (λ n. n) first i) (getD refs₀ i 0) (drop (suc i) refs₀) (first + i)
             ∙ sym
             (ap (λ (n : ℕ). range (λ m. m) first n ++ drop n refs₀) j
-            ∙ ap (λ (r : List ℕ). r ++ drop (suc i) refs₀) (range-last first i)
+            ∙ ap (λ (r : List ℕ). r ++ drop (suc i) refs₀) (range-last (λ n. n) first i)
             ∙ append-assoc (range (λ n. n) first i) ((first + i) ∷ []) (drop (suc i) refs₀));
       }
 

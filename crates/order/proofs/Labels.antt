@@ -134,19 +134,6 @@ module _ (l : List ℕ) where
 
 -- ---- keeping
 
-pub keep-append : {A : Type 0} (q : A → Bool) (l m : List A) → keep q (l ++ m) ≡ keep q l ++ keep q m
-keep-append q [] m = refl
-keep-append {A} q (x ∷ l) m =
-    decide (q x)
-    (λ (t : T (q x)).
-    cond-yes (q x) (x ∷ keep q (l ++ m)) (keep q (l ++ m)) t
-    ∙ ap (λ (r : List A). x ∷ r) (keep-append q l m)
-    ∙ sym (ap (λ (r : List A). r ++ keep q m) (cond-yes (q x) (x ∷ keep q l) (keep q l) t)))
-    (λ (t : T (not (q x))).
-    cond-no (q x) (x ∷ keep q (l ++ m)) (keep q (l ++ m)) t
-    ∙ keep-append q l m
-    ∙ sym (ap (λ (r : List A). r ++ keep q m) (cond-no (q x) (x ∷ keep q l) (keep q l) t)))
-
 -- what is left out gives nothing
 pub gather-keep : {A : Type 0} (f : ℕ → List A) (q : ℕ → Bool) → ((n : ℕ) → T (not (q n)) → f n ≡ []) → (l : List ℕ) → gather f (keep q l) ≡ gather f l
 gather-keep f q none [] = refl

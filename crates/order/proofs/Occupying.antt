@@ -2,28 +2,29 @@
 use mathlib.Core.Path.{_≡_, refl, sym, ap, ap₂, subst, _∙_}
 use mathlib.Core.Bool.{Bool, true, false, not, cond, _&&_}
 use mathlib.Core.List.{List, [], _∷_, _++_, append-assoc, append-nil}
-use Prim.Native.Nat.{ℕ, zero, suc, _+_, _-_, _/_, _%_, _≤_, _<_}
+use Prim.Native.Nat.{ℕ, zero, suc, _+_, _-_, _≤_, _<_}
 use native.Mathlib.Omega.{arith}
 use borrow.Author.Tests.{not-true, not-false}
 use lib.ListN.{length, take, drop, set, length-append, length-set, length-take}
 use lib.Seq.{take-at, set-split, length-take-le}
 use lib.Dec.{T, eqb}
-use mir.Facts.{leb-yes, eqb-yes}
+use mir.Facts.{eqb-yes}
 use Rattle.model.specs.Lists.{keep, range}
 use Rattle.model.specs.Sets.{sort}
-use Rattle.model.specs.Label.{labels, level, sizing, fabric, cost, includes, dominates}
+use Rattle.model.specs.Label.{labels, dominates}
 use Rattle.model.specs.Path.{Step, isPrefix}
 use Rattle.model.specs.Element.{rank}
 use Rattle.model.specs.Partition.{partitionSize, count, slots, readPartition}
 use Rattle.model.specs.Store.{partition}
 use Rattle.model.specs.Model.{openModel, ownSet}
-use Rattle.model.proofs.Bools.{and-l, and-r, decide, cond-yes, cond-no, is-true}
-use Rattle.model.proofs.Dominance.{label-lt}
+use Rattle.model.proofs.Bools.{decide, cond-yes, cond-no, is-true}
+use Rattle.model.proofs.Lists.{range-last, range-split}
+use Rattle.model.proofs.Members.{keep-append}
+use Rattle.model.proofs.Dominance.{label-lt, dominates-le}
 use Rattle.store.specs.Opened.{Opened}
 use Rattle.store.proofs.Viewing.{opened-set}
 use Rattle.order.specs.Refs.{Refers, seenAt, rising, orderedOf, ordered, occupies}
-use Rattle.order.proofs.Counting.{range-last}
-use Rattle.order.proofs.Labels.{rising-keep, keep-append, gather-keep}
+use Rattle.order.proofs.Labels.{rising-keep, gather-keep}
 
 -- ---- what they stand for
 
@@ -77,20 +78,6 @@ module _ (s n : ℕ) (b : List ℕ) {r : Bool} (e : r ≡ dominates s n) where
 
 -- ---- found one after another
 
--- no dominated label is greater than the subject
-dominated-le : (s n : ℕ) → T (dominates s n) → n ≤ s
-unfolding dominates includes level sizing fabric cost
-dominated-le s n t =
-    let l : n / 8 ≤ s / 8 = leb-yes (search (and-l, and-r)) in
-    let a : n % 2 ≤ s % 2 = leb-yes (search (and-l, and-r)) in
-    let c : n / 2 % 2 ≤ s / 2 % 2 = leb-yes (search (and-l, and-r)) in
-    let d : n / 4 % 2 ≤ s / 4 % 2 = leb-yes (search (and-l, and-r)) in
-    let e : n / 4 ≡ n / 2 / 2 = omega arith in
-    let f : n / 8 ≡ n / 4 / 2 = omega arith in
-    let g : s / 4 ≡ s / 2 / 2 = omega arith in
-    let h : s / 8 ≡ s / 4 / 2 = omega arith in
-    omega arith
-
 pub record Filled (s : ℕ) (b found₀ found : List ℕ) (k n : ℕ) : Type 0 where
   pub size : length found ≡ length found₀
   pub few : k ≤ n
@@ -106,7 +93,7 @@ module _ {s : ℕ} {b found₀ found : List ℕ} {k n : ℕ} (inv : Filled s b f
       let j : n + 1 ≡ suc n = omega arith in
       let z : 0 + n ≡ n = omega arith in
       ap (λ (m : ℕ). keep (occupies s b) (range (λ i. i) 0 m)) j
-      ∙ ap (keep (occupies s b)) (range-last 0 n ∙ ap (λ (m : ℕ). range (λ i. i) 0 n ++ (m ∷ [])) z)
+      ∙ ap (keep (occupies s b)) (range-last (λ m. m) 0 n ∙ ap (λ (m : ℕ). range (λ i. i) 0 n ++ (m ∷ [])) z)
       ∙ keep-append (occupies s b) (range (λ m. m) 0 n) (n ∷ [])
 
   -- an occupied label is put behind the others
@@ -157,22 +144,10 @@ unfolding occupies
 keep-none s b i zero h = refl
 keep-none s b i (suc c) h =
     decide (dominates s i)
-    (λ (t : T (dominates s i)). absurd (let l : i ≤ s = dominated-le s i t in omega arith))
+    (λ (t : T (dominates s i)). absurd (let l : i ≤ s = dominates-le s i t in omega arith))
     (λ (t : T (not (dominates s i))).
     let q : dominates s i ≡ false = not-true (dominates s i) (is-true (not (dominates s i)) t) in
     rw q (keep-none s b (suc i) c (omega arith)))
-
-range-split : (lo h w : ℕ) → h ≤ w → range (λ n. n) lo w ≡ range (λ n. n) lo h ++ range (λ n. n) (lo + h) (w - h)
-range-split lo zero w l =
-    let x : lo ≡ lo + 0 = omega arith in
-    let y : w ≡ w - 0 = omega arith in
-    ap₂ (λ (i k : ℕ). range (λ n. n) i k) x y
-range-split lo (suc h) zero l = absurd (omega arith)
-range-split lo (suc h) (suc w) l =
-    let x : suc lo + h ≡ lo + suc h = omega arith in
-    let y : w - h ≡ suc w - suc h = omega arith in
-    ap (λ (r : List ℕ). lo ∷ r)
-    (range-split (suc lo) h w (omega arith) ∙ ap₂ (λ (i k : ℕ). range (λ n. n) (suc lo) h ++ range (λ n. n) i k) x y)
 
 pub fill-end : {s : ℕ} {b found₀ found : List ℕ} {k n : ℕ} → Opened b s → Filled s b found₀ found k n → s < n → (take k found ≡ keep (occupies s b) labels) × (k ≤ 32)
 fill-end {s} {b} {found₀} {found} {k} {n} o inv h =
@@ -181,7 +156,7 @@ fill-end {s} {b} {found₀} {found} {k} {n} o inv h =
     let f : k ≤ n = inv .few in (
       inv .is
           ∙ sym
-          (ap (keep (occupies s b)) (range-split 0 n 32 (omega arith))
+          (ap (keep (occupies s b)) (range-split (λ i. i) 0 n 32 (omega arith))
           ∙ keep-append (occupies s b) (range (λ i. i) 0 n) (range (λ i. i) (0 + n) (32 - n))
           ∙ ap (λ (l : List ℕ). keep (occupies s b) (range (λ i. i) 0 n) ++ l) (keep-none s b (0 + n) (32 - n) (omega arith))
           ∙ append-nil (keep (occupies s b) (range (λ i. i) 0 n))),

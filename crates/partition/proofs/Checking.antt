@@ -218,9 +218,6 @@ module _ (n : ℕ) {x b : List ℕ} {v : Bool} (e : (x ≡ b) × (length x ≡ s
     pub slot-readable : Readable x
     slot-readable = record { size = e .1; steps = valid-steps n x valid }
 
-    pub slot-deep : depth b ≤ 6
-    slot-deep = rw (← (e .0)) (valid-steps n x valid)
-
     goes : (p : List Step) → goodSlot n p b ≡ mayFollow n p (readPath x)
     unfolding goodSlot
     goes p = rw (← (e .0), is-true (validSlot n x) valid)

@@ -14,6 +14,7 @@ use Rattle.model.specs.Slot.{kindAt, slotSize, pathBytes, contentBytes, slotByt
 use Rattle.model.specs.Partition.{partitionSize, layout, count, slotStart, readPartition}
 use Rattle.model.specs.Call.{added}
 use Rattle.model.proofs.Lists.{length-pad, pad-short, length-range, take-replicate}
+use Rattle.model.proofs.Members.{gather-append}
 use Rattle.model.proofs.Slots.{length-slot}
 use Rattle.model.proofs.Partitions.{length-slots, layout-read}
 use Rattle.partition.specs.Place.{Formed, Room, replacedAt}
@@ -31,10 +32,6 @@ unfolding layout pad
 layout-parts es h =
     ap (λ (l : List ℕ). head (length es) ++ l)
     (pad-short 1280 (gather slotBytes es) (rw (length-slots es) (omega arith)) ∙ ap (λ (n : ℕ). gather slotBytes es ++ replicate (1280 - n) 0) (length-slots es))
-
-gather-append : (es ds : List Element) → gather slotBytes (es ++ ds) ≡ gather slotBytes es ++ gather slotBytes ds
-gather-append [] ds = refl
-gather-append (e ∷ es) ds = ap (λ (l : List ℕ). slotBytes e ++ l) (gather-append es ds) ∙ sym (append-assoc (slotBytes e) (gather slotBytes es) (gather slotBytes ds))
 
 -- the first k slots, and the others
 slots-take : (k : ℕ) (es : List Element) (z : List ℕ) → k ≤ length es → take (slotSize * k) (gather slotBytes es ++ z) ≡ gather slotBytes (take k es)
@@ -144,7 +141,7 @@ module _ {b : List ℕ} (f : Formed b) (at k : ℕ) (within : at + k ≤ count b
       ∙ ap (λ (n : ℕ). head (count b - n) ++ (gather slotBytes (take at es) ++ (gather slotBytes (drop (at + k) es) ++ replicate (1280 - slotSize * (count b - k)) 0))) m
       ∙ sym
       (layout-parts left (rw length-left (omega (arith, facts f .few)))
-      ∙ ap₂ (λ (n : ℕ) (l : List ℕ). head n ++ (l ++ replicate (1280 - slotSize * n) 0)) length-left (gather-append (take at es) (drop (at + k) es))
+      ∙ ap₂ (λ (n : ℕ) (l : List ℕ). head n ++ (l ++ replicate (1280 - slotSize * n) 0)) length-left (gather-append slotBytes (take at es) (drop (at + k) es))
       ∙ ap (λ (l : List ℕ). head (count b - k) ++ l) (append-assoc (gather slotBytes (take at es)) (gather slotBytes (drop (at + k) es)) _))
 
 -- ---- a slot put in
@@ -197,7 +194,7 @@ module _ {b : List ℕ} (f : Formed b) (e : Element) (at : ℕ) (within : at ≤
       (take-at (take (slotStart at) b) y (slotStart at) lf ∙ front f at within) q
       ∙ sym
       (layout-parts all (rw length-all (omega arith))
-      ∙ ap₂ (λ (n : ℕ) (l : List ℕ). head n ++ (l ++ replicate (1280 - slotSize * n) 0)) length-all (gather-append (take at (readPartition b)) (e ∷ drop at (readPartition b)))
+      ∙ ap₂ (λ (n : ℕ) (l : List ℕ). head n ++ (l ++ replicate (1280 - slotSize * n) 0)) length-all (gather-append slotBytes (take at (readPartition b)) (e ∷ drop at (readPartition b)))
       ∙ ap (λ (l : List ℕ). head (count b + 1) ++ l)
       (append-assoc (gather slotBytes (take at (readPartition b))) (gather slotBytes (e ∷ drop at (readPartition b))) _
       ∙ ap (λ (l : List ℕ). gather slotBytes (take at (readPartition b)) ++ l) (append-assoc (slotBytes e) (gather slotBytes (drop at (readPartition b))) _)))

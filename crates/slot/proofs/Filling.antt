@@ -10,7 +10,8 @@ use Rattle.model.specs.Lists.{gather, range, pad}
 use Rattle.model.specs.Path.{Step, stepsOf}
 use Rattle.model.specs.Value.{Content}
 use Rattle.model.specs.Slot.{namesAt, labelsAt, kindAt, lengthAt, valueAt, spareAt, slotSize, field, nameBytes, pathBytes, contentBytes, slotBytes}
-use Rattle.model.proofs.Lists.{length-range, length-pad, pad-short, drop-replicate}
+use Rattle.model.proofs.Lists.{length-range, range-last, length-pad, pad-short, drop-replicate}
+use Rattle.model.proofs.Members.{gather-append}
 use Rattle.model.proofs.Slots.{length-names}
 use Rattle.path.specs.Steps.{lentStep}
 use Rattle.path.proofs.Steps.{lent-range, length-steps}
@@ -49,20 +50,11 @@ pad-set n l i x h k =
 
 -- ---- the steps of a lent path written one by one
 
-module _ {A : Type 0} (g : ℕ → A) where
-  range-more : (i n : ℕ) → range g i (suc n) ≡ range g i n ++ (g (i + n) ∷ [])
-  range-more i zero = let e : i + 0 ≡ i = omega arith in rw e
-  range-more i (suc n) = let e : i + suc n ≡ suc i + n = omega arith in rw e (ap (λ l. g i ∷ l) (range-more (suc i) n))
-
-  range-last : (n : ℕ) → range g 0 (n + 1) ≡ range g 0 n ++ (g n ∷ [])
-  range-last n =
-      let e : n + 1 ≡ suc n = omega arith in
-      let z : 0 + n ≡ n = omega arith in
-      ap (range g 0) e ∙ range-more 0 n ∙ rw z
-
-gather-append : {A B : Type 0} (f : A → List B) (l m : List A) → gather f (l ++ m) ≡ gather f l ++ gather f m
-gather-append f [] m = refl
-gather-append f (x ∷ l) m = ap (λ r. f x ++ r) (gather-append f l m) ∙ sym (append-assoc (f x) (gather f l) (gather f m))
+steps-more : (p : List ℕ) (n : ℕ) → range (lentStep p) 0 (n + 1) ≡ range (lentStep p) 0 n ++ (lentStep p n ∷ [])
+steps-more p n =
+    let e : n + 1 ≡ suc n = omega arith in
+    let z : 0 + n ≡ n = omega arith in
+    ap (range (lentStep p) 0) e ∙ range-last (lentStep p) 0 n ∙ rw z
 
 -- a field of n bytes holds what f gives for the first i steps of p, then zeros
 pub record Laid (n : ℕ) (f : List Step → List ℕ) (p s : List ℕ) (i : ℕ) : Type 0 where
@@ -92,7 +84,7 @@ names-next {p} {s} {i} inv few h byte =
     let high : (lo + 256 * hi) / 256 ≡ hi = omega arith in
     let m1 : length (l ++ (lo ∷ [])) ≡ 2 * i + 1 = simp length-append (omega arith) in
     let more : gather nameBytes (range (lentStep p) 0 (i + 1)) ≡ (l ++ (lo ∷ [])) ++ (hi ∷ []) =
-    ap (gather nameBytes) (range-last (lentStep p) i)
+    ap (gather nameBytes) (steps-more p i)
     ∙ gather-append nameBytes (range (lentStep p) 0 i) (lentStep p i ∷ [])
     ∙ ap₂ (λ (x y : ℕ). l ++ (x ∷ y ∷ [])) low high
     ∙ sym (append-assoc l (lo ∷ []) (hi ∷ [])) in
@@ -115,7 +107,7 @@ labels-next {p} {s} {i} inv few h =
     let l : List ℕ = labels (range (lentStep p) 0 i) in
     let m : length l ≡ i = length-map (range (lentStep p) 0 i) (λ (a : Step). a .label) ∙ length-range (lentStep p) 0 i in
     let more : labels (range (lentStep p) 0 (i + 1)) ≡ l ++ (getD p (3 * i + 2) 0 ∷ []) =
-    ap labels (range-last (lentStep p) i) ∙ map-append (λ (a : Step). a .label) (range (lentStep p) 0 i) (lentStep p i ∷ []) in
+    ap labels (steps-more p i) ∙ map-append (λ (a : Step). a .label) (range (lentStep p) 0 i) (lentStep p i ∷ []) in
     record {
       within = omega arith;
       is = ap (λ (r : List ℕ). set r i (getD p (3 * i + 2) 0)) (inv .is) ∙ pad-set 6 l i (getD p (3 * i + 2) 0) m (omega arith) ∙ ap (pad 6) (sym more);

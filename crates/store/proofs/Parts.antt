@@ -2,21 +2,20 @@
 use mathlib.Core.Path.{_≡_, refl, sym, ap, _∙_}
 use mathlib.Core.Bool.{Bool, true, false, not, _&&_, _||_}
 use mathlib.Core.List.{List}
-use Prim.Native.Nat.{ℕ, zero, suc, _+_, _-_, _*_, _/_, _%_, _≤_, _<_}
+use Prim.Native.Nat.{ℕ, zero, suc, _+_, _-_, _*_, _≤_, _<_}
 use native.Mathlib.Omega.{arith}
 use borrow.Author.Tests.{not-true, not-false}
 use lib.ListN.{length, take, drop, length-drop}
 use lib.Seq.{length-take-le}
 use lib.Dec.{T}
-use mir.Facts.{leb-yes}
 use Rattle.model.specs.Lists.{any, range}
-use Rattle.model.specs.Label.{labels, level, sizing, fabric, cost, includes, dominates}
+use Rattle.model.specs.Label.{labels, dominates}
 use Rattle.model.specs.Partition.{partitionSize, readPartition, wellFormed}
 use Rattle.model.specs.Store.{storeSize, partition}
 use Rattle.model.specs.Model.{held, raw, isHeld, elements, openCell, openModel, ownSet}
 use Rattle.model.specs.Call.{someRaw}
-use Rattle.model.proofs.Bools.{and-l, and-r, decide, cond-yes, cond-no, is-true, is-false}
-use Rattle.model.proofs.Dominance.{label-lt, dominates-upper, dominates-lower}
+use Rattle.model.proofs.Bools.{decide, cond-yes, cond-no, is-true, is-false}
+use Rattle.model.proofs.Dominance.{label-lt, dominates-upper, dominates-lower, dominates-le}
 use Rattle.model.proofs.Stores.{yes-has, partition-part}
 use Rattle.model.proofs.Walks.{Left, left-start}
 
@@ -73,25 +72,11 @@ part-lent s n b {k} size t e =
 
 -- ---- over the labels
 
--- a label is not greater than one that dominates it
-dominated-le : (s n : ℕ) → T (dominates s n) → n ≤ s
-unfolding dominates includes level sizing fabric cost
-dominated-le s n t =
-    let a : n / 8 ≤ s / 8 = leb-yes (search (and-l, and-r)) in
-    let b : n % 2 ≤ s % 2 = leb-yes (search (and-l, and-r)) in
-    let c : n / 2 % 2 ≤ s / 2 % 2 = leb-yes (search (and-l, and-r)) in
-    let d : n / 4 % 2 ≤ s / 4 % 2 = leb-yes (search (and-l, and-r)) in
-    let f : n / 4 ≡ n / 2 / 2 = omega arith in
-    let g : n / 8 ≡ n / 4 / 2 = omega arith in
-    let h : s / 4 ≡ s / 2 / 2 = omega arith in
-    let k : s / 8 ≡ s / 4 / 2 = omega arith in
-    omega arith
-
--- so none from e on is dominated
+-- a label is not greater than one that dominates it, so none from e on is dominated
 not-above : (s e n : ℕ) → (e ≤ 32) × (s < 32 → s < e) → e ≤ n → dominates s n ≡ false
 not-above s e n f h =
     decide (dominates s n)
-    (λ (t : T (dominates s n)). absurd (omega (arith, dominated-le s n t, f .1 (label-lt s (dominates-upper s n t)))))
+    (λ (t : T (dominates s n)). absurd (omega (arith, dominates-le s n t, f .1 (label-lt s (dominates-upper s n t)))))
     (λ (t : T (not (dominates s n))). is-false (dominates s n) t)
 
 -- a search over a range may end where no member behind it passes
