@@ -16,8 +16,17 @@ delete-spec =
     (λ c. search needs)  -- delete-row-requires
     (λ c. search needs)  -- same-length
     (λ c. did-refused _ _ _ (c .before .delete-row .ensures) (c .if1 .taken))  -- returns
-    (λ c. omega (arith, label-lt _ ((done-opened _ _ (delete (c .before .before .before .before .before .before .args .path .now)) (sym (c .before .if1 .left) ∙ c .before .before .delete-row .ensures)) .label)))  -- cast-remove
-    (λ c κs. opened-own (done-opened _ _ (delete (c .before .before .before .before .before .before .args .path .now)) (sym (c .before .if1 .left) ∙ c .before .before .delete-row .ensures)))  -- remove-requires
+    -- cast-remove
+    (λ c.
+    let start = c .before .before .before .before .before .before in
+    omega (arith, label-lt _ ((done-opened _ _ (delete (start .args .path .now)) (sym (c .before .if1 .left) ∙ c .before .before .delete-row .ensures)) .label)))
+    -- remove-requires
+    (λ c κs.
+    let start = c .before .before .before .before .before .before in
+    opened-own (done-opened _ _ (delete (start .args .path .now)) (sym (c .before .if1 .left) ∙ c .before .before .delete-row .ensures)))
     (λ c. search needs)  -- same-length-2
-    (λ c. delete-did _ _ (c .before .before .before .before .before .before .before .before .before .args .path .now) (sym (c .before .before .before .before .if1 .left) ∙ c .before .before .before .before .before .delete-row .ensures) (c .before .before .remove .ensures))  -- returns-2
+    -- returns-2
+    (λ c.
+    let start = c .before .before .before .before .before .before .before .before .before in
+    delete-did _ _ (start .args .path .now) (sym (c .before .before .before .before .if1 .left) ∙ c .before .before .before .before .before .delete-row .ensures) (c .before .before .remove .ensures))
     )

@@ -15,9 +15,23 @@ insert-spec =
     (λ c. search needs)  -- insert-row-requires
     (λ c. search needs)  -- same-length
     (λ c. did-refused _ _ _ (c .before .insert-row .ensures) (c .if1 .taken))  -- returns
-    (λ c. omega (arith, label-lt _ (done-opened _ _ (insert (c .before .before .before .before .before .before .before .args .path .now) (record { kind = c .before .before .before .before .before .before .before .args .kind; value = c .before .before .before .before .before .before .before .args .value .now })) (sym (c .before .if1 .left) ∙ c .before .before .insert-row .ensures) .label)))  -- cast-insert
-    (λ c. omega (arith, brought-kind (c .before .before .before .before .before .before .before .args .path .now) (record { kind = c .before .before .before .before .before .before .before .args .kind; value = c .before .before .before .before .before .before .before .args .value .now }) (insert-brought _ _ (c .before .before .before .before .before .before .before .args .path .now) (record { kind = c .before .before .before .before .before .before .before .args .kind; value = c .before .before .before .before .before .before .before .args .value .now }) (sym (c .before .if1 .left) ∙ c .before .before .insert-row .ensures))))  -- cast-insert-2
-    (λ c κs. (insert-vacant _ _ (c .before .before .before .before .before .before .before .args .path .now) (record { kind = c .before .before .before .before .before .before .before .args .kind; value = c .before .before .before .before .before .before .before .args .value .now }) (sym (c .before .if1 .left) ∙ c .before .before .insert-row .ensures), brought-short (c .before .before .before .before .before .before .before .args .path .now) (record { kind = c .before .before .before .before .before .before .before .args .kind; value = c .before .before .before .before .before .before .before .args .value .now }) (insert-brought _ _ (c .before .before .before .before .before .before .before .args .path .now) (record { kind = c .before .before .before .before .before .before .before .args .kind; value = c .before .before .before .before .before .before .before .args .value .now }) (sym (c .before .if1 .left) ∙ c .before .before .insert-row .ensures))))  -- insert-requires
+    -- cast-insert
+    (λ c.
+    let start = c .before .before .before .before .before .before .before in
+    omega (arith, label-lt _ (done-opened _ _ (insert (start .args .path .now) (record { kind = start .args .kind; value = start .args .value .now })) (sym (c .before .if1 .left) ∙ c .before .before .insert-row .ensures) .label)))
+    -- cast-insert-2
+    (λ c.
+    let start = c .before .before .before .before .before .before .before in
+    omega (arith, brought-kind (start .args .path .now) (record { kind = start .args .kind; value = start .args .value .now }) (insert-brought _ _ (start .args .path .now) (record { kind = start .args .kind; value = start .args .value .now }) (sym (c .before .if1 .left) ∙ c .before .before .insert-row .ensures))))
+    -- insert-requires
+    (λ c κs.
+    let start = c .before .before .before .before .before .before .before in
+    let insert-row = c .before .before .insert-row .ensures in
+    let first = c .before .if1 .left in
+    (insert-vacant _ _ (start .args .path .now) (record { kind = start .args .kind; value = start .args .value .now }) (sym first ∙ insert-row), brought-short (start .args .path .now) (record { kind = start .args .kind; value = start .args .value .now }) (insert-brought _ _ (start .args .path .now) (record { kind = start .args .kind; value = start .args .value .now }) (sym first ∙ insert-row))))
     (λ c. search needs)  -- same-length-2
-    (λ c. insert-did _ _ (c .before .before .before .before .before .before .before .before .before .before .args .path .now) (record { kind = c .before .before .before .before .before .before .before .before .before .before .args .kind; value = c .before .before .before .before .before .before .before .before .before .before .args .value .now }) (sym (c .before .before .before .before .if1 .left) ∙ c .before .before .before .before .before .insert-row .ensures) (c .before .before .insert .ensures))  -- returns-2
+    -- returns-2
+    (λ c.
+    let start = c .before .before .before .before .before .before .before .before .before .before in
+    insert-did _ _ (start .args .path .now) (record { kind = start .args .kind; value = start .args .value .now }) (sym (c .before .before .before .before .if1 .left) ∙ c .before .before .before .before .before .insert-row .ensures) (c .before .before .insert .ensures))
     )

@@ -16,11 +16,31 @@ update-spec =
     (λ c. search needs)  -- update-row-requires
     (λ c. search needs)  -- same-length
     (λ c. did-refused _ _ _ (c .before .update-row .ensures) (c .if1 .taken))  -- returns
-    (λ c. omega (arith, label-lt _ (done-opened _ _ (update (c .before .before .before .before .before .before .before .args .path .now) (record { kind = c .before .before .before .before .before .before .before .args .kind; value = c .before .before .before .before .before .before .before .args .value .now })) (sym (c .before .if1 .left) ∙ c .before .before .update-row .ensures) .label)))  -- cast-remove
-    (λ c κs. opened-own (done-opened _ _ (update (c .before .before .before .before .before .before .before .args .path .now) (record { kind = c .before .before .before .before .before .before .before .args .kind; value = c .before .before .before .before .before .before .before .args .value .now })) (sym (c .before .if1 .left) ∙ c .before .before .update-row .ensures)))  -- remove-requires
-    (λ c. omega (arith, label-lt _ (done-opened _ _ (update (c .before .before .before .before .before .before .before .before .before .before .before .args .path .now) (record { kind = c .before .before .before .before .before .before .before .before .before .before .before .args .kind; value = c .before .before .before .before .before .before .before .before .before .before .before .args .value .now })) (sym (c .before .before .before .before .before .if1 .left) ∙ c .before .before .before .before .before .before .update-row .ensures) .label)))  -- cast-insert
-    (λ c. omega (arith, brought-kind (c .before .before .before .before .before .before .before .before .before .before .before .args .path .now) (record { kind = c .before .before .before .before .before .before .before .before .before .before .before .args .kind; value = c .before .before .before .before .before .before .before .before .before .before .before .args .value .now }) (update-brought _ _ (c .before .before .before .before .before .before .before .before .before .before .before .args .path .now) (record { kind = c .before .before .before .before .before .before .before .before .before .before .before .args .kind; value = c .before .before .before .before .before .before .before .before .before .before .before .args .value .now }) (sym (c .before .before .before .before .before .if1 .left) ∙ c .before .before .before .before .before .before .update-row .ensures))))  -- cast-insert-2
-    (λ c κs. (update-vacant _ _ (c .before .before .before .before .before .before .before .before .before .before .before .args .path .now) (record { kind = c .before .before .before .before .before .before .before .before .before .before .before .args .kind; value = c .before .before .before .before .before .before .before .before .before .before .before .args .value .now }) (sym (c .before .before .before .before .before .if1 .left) ∙ c .before .before .before .before .before .before .update-row .ensures) (c .before .before .before .remove .ensures .1), brought-short (c .before .before .before .before .before .before .before .before .before .before .before .args .path .now) (record { kind = c .before .before .before .before .before .before .before .before .before .before .before .args .kind; value = c .before .before .before .before .before .before .before .before .before .before .before .args .value .now }) (update-brought _ _ (c .before .before .before .before .before .before .before .before .before .before .before .args .path .now) (record { kind = c .before .before .before .before .before .before .before .before .before .before .before .args .kind; value = c .before .before .before .before .before .before .before .before .before .before .before .args .value .now }) (sym (c .before .before .before .before .before .if1 .left) ∙ c .before .before .before .before .before .before .update-row .ensures))))  -- insert-requires
+    -- cast-remove
+    (λ c.
+    let start = c .before .before .before .before .before .before .before in
+    omega (arith, label-lt _ (done-opened _ _ (update (start .args .path .now) (record { kind = start .args .kind; value = start .args .value .now })) (sym (c .before .if1 .left) ∙ c .before .before .update-row .ensures) .label)))
+    -- remove-requires
+    (λ c κs.
+    let start = c .before .before .before .before .before .before .before in
+    opened-own (done-opened _ _ (update (start .args .path .now) (record { kind = start .args .kind; value = start .args .value .now })) (sym (c .before .if1 .left) ∙ c .before .before .update-row .ensures)))
+    -- cast-insert
+    (λ c.
+    let start = c .before .before .before .before .before .before .before .before .before .before .before in
+    omega (arith, label-lt _ (done-opened _ _ (update (start .args .path .now) (record { kind = start .args .kind; value = start .args .value .now })) (sym (c .before .before .before .before .before .if1 .left) ∙ c .before .before .before .before .before .before .update-row .ensures) .label)))
+    -- cast-insert-2
+    (λ c.
+    let start = c .before .before .before .before .before .before .before .before .before .before .before in
+    omega (arith, brought-kind (start .args .path .now) (record { kind = start .args .kind; value = start .args .value .now }) (update-brought _ _ (start .args .path .now) (record { kind = start .args .kind; value = start .args .value .now }) (sym (c .before .before .before .before .before .if1 .left) ∙ c .before .before .before .before .before .before .update-row .ensures))))
+    -- insert-requires
+    (λ c κs.
+    let start = c .before .before .before .before .before .before .before .before .before .before .before in
+    let update-row = c .before .before .before .before .before .before .update-row .ensures in
+    let first = c .before .before .before .before .before .if1 .left in
+    (update-vacant _ _ (start .args .path .now) (record { kind = start .args .kind; value = start .args .value .now }) (sym first ∙ update-row) (c .before .before .before .remove .ensures .1), brought-short (start .args .path .now) (record { kind = start .args .kind; value = start .args .value .now }) (update-brought _ _ (start .args .path .now) (record { kind = start .args .kind; value = start .args .value .now }) (sym first ∙ update-row))))
     (λ c. search needs)  -- same-length-2
-    (λ c. update-did _ _ (c .before .before .before .before .before .before .before .before .before .before .before .before .before .before .args .path .now) (record { kind = c .before .before .before .before .before .before .before .before .before .before .before .before .before .before .args .kind; value = c .before .before .before .before .before .before .before .before .before .before .before .before .before .before .args .value .now }) (sym (c .before .before .before .before .before .before .before .before .if1 .left) ∙ c .before .before .before .before .before .before .before .before .before .update-row .ensures) (c .before .before .before .before .before .before .remove .ensures) (c .before .before .insert .ensures))  -- returns-2
+    -- returns-2
+    (λ c.
+    let start = c .before .before .before .before .before .before .before .before .before .before .before .before .before .before in
+    update-did _ _ (start .args .path .now) (record { kind = start .args .kind; value = start .args .value .now }) (sym (c .before .before .before .before .before .before .before .before .if1 .left) ∙ c .before .before .before .before .before .before .before .before .before .update-row .ensures) (c .before .before .before .before .before .before .remove .ensures) (c .before .before .insert .ensures))
     )

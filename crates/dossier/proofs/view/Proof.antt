@@ -11,11 +11,28 @@ view-spec =
     tie.close
     (tie.spec
     (λ c. search needs)  -- view-row-requires
-    (λ c. view-stopped _ (c .before .before .before .before .before .args .store .now) (c .before .before .before .before .before .args .path .now) (c .before .before .before .before .before .args .output .now) (c .before .view-row .ensures) (c .if1 .taken))  -- returns
-    (λ c. omega (arith, label-lt _ (view-opened _ (c .before .before .before .before .before .args .store .now) (c .before .before .before .before .before .args .path .now) (c .before .before .before .before .before .args .output .now) (c .before .view-row .ensures) (c .if1 .left) .label)))  -- cast-list
-    (λ c κs. view-opened _ (c .before .before .before .before .before .before .args .store .now) (c .before .before .before .before .before .before .args .path .now) (c .before .before .before .before .before .before .args .output .now) (c .before .before .view-row .ensures) (c .before .if1 .left))  -- list-requires
+    -- returns
+    (λ c.
+    let start = c .before .before .before .before .before in
+    view-stopped _ (start .args .store .now) (start .args .path .now) (start .args .output .now) (c .before .view-row .ensures) (c .if1 .taken))
+    -- cast-list
+    (λ c.
+    let start = c .before .before .before .before .before in
+    omega (arith, label-lt _ (view-opened _ (start .args .store .now) (start .args .path .now) (start .args .output .now) (c .before .view-row .ensures) (c .if1 .left) .label)))
+    -- list-requires
+    (λ c κs.
+    let start = c .before .before .before .before .before .before in
+    view-opened _ (start .args .store .now) (start .args .path .now) (start .args .output .now) (c .before .before .view-row .ensures) (c .before .if1 .left))
     (λ c. search needs)  -- same-length
-    (λ c. view-short _ (c .before .before .before .before .before .before .before .before .before .before .args .store .now) (c .before .before .before .before .before .before .before .before .before .before .args .path .now) (c .before .before .before .before .before .before .before .before .before .before .args .output .now) (c .before .before .before .before .before .before .view-row .ensures) (c .before .before .before .before .before .if1 .left) (c .before .before .before .list .ensures .0) (c .before .before .output .given) (c .before .before .before .list .ensures .1) (c .if2 .taken))  -- returns-2
+    -- returns-2
+    (λ c.
+    let start = c .before .before .before .before .before .before .before .before .before .before in
+    let list = c .before .before .before .list .ensures in
+    view-short _ (start .args .store .now) (start .args .path .now) (start .args .output .now) (c .before .before .before .before .before .before .view-row .ensures) (c .before .before .before .before .before .if1 .left) (list .0) (c .before .before .output .given) (list .1) (c .if2 .taken))
     (λ c. search needs)  -- same-length-2
-    (λ c. view-did _ (c .before .before .before .before .before .before .before .before .before .before .args .store .now) (c .before .before .before .before .before .before .before .before .before .before .args .path .now) (c .before .before .before .before .before .before .before .before .before .before .args .output .now) (c .before .before .before .before .before .before .view-row .ensures) (c .before .before .before .before .before .if1 .left) (c .before .before .before .list .ensures .0) (c .before .before .output .given) (c .before .before .before .list .ensures .1) (c .if2 .left))  -- returns-3
+    -- returns-3
+    (λ c.
+    let start = c .before .before .before .before .before .before .before .before .before .before in
+    let list = c .before .before .before .list .ensures in
+    view-did _ (start .args .store .now) (start .args .path .now) (start .args .output .now) (c .before .before .before .before .before .before .view-row .ensures) (c .before .before .before .before .before .if1 .left) (list .0) (c .before .before .output .given) (list .1) (c .if2 .left))
     )

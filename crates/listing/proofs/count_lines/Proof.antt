@@ -24,13 +24,19 @@ count-lines-spec =
     (λ c κs. ((c .before .before .before .before .before .pre .0 .0, c .loop-test .taken), c .before .before .before .before .before .pre .1))  -- shared-above-requires
     (λ c. search needs)  -- mul-slot-of
     (λ c. c .before .before .loop-test .taken)  -- shared-slice-read-slot-of
-    (λ c κs. (c .before .before .before .before .before .before .before .pre .0 .0, here-refers (stepsOf (c .before .before .before .before .before .before .before .args .path .now)) (c .before .before .before .before .before .before .before .pre .1) _ (c .before .before .loop-test .taken)))  -- slot-of-requires
+    -- slot-of-requires
+    (λ c κs.
+    let start = c .before .before .before .before .before .before .before in
+    (start .pre .0 .0, here-refers (stepsOf (start .args .path .now)) (start .pre .1) _ (c .before .before .loop-test .taken)))
     (λ c κs. c .slot-of .ensures .1 .size)  -- depth-requires
     -- sub-lines
     (λ c.
     let start = c .before .before .before .before .before .before .before .before .before in
     omega (arith, here-new (stepsOf (start .args .path .now)) (start .pre .1) _ (c .before .before .before .before .loop-test .taken) (c .before .slot-of .ensures) (c .before .before .before .shared-above .ensures), c .depth .ensures .0))
-    (λ c. search (needs, c .before .before .before .before .before .loop .inv .few, c .depth .ensures .1, c .before .before .before .before .loop-test .taken, c .before .before .before .before .before .before .before .before .before .pre .0 .1))  -- add-lines
+    -- add-lines
+    (λ c.
+    let start = c .before .before .before .before .before .before .before .before .before in
+    search (needs, c .before .before .before .before .before .loop .inv .few, c .depth .ensures .1, c .before .before .before .before .loop-test .taken, start .pre .0 .1))
     (λ c. search needs)  -- add-i
     (λ c. search needs)  -- loop-less
     -- loop-again

@@ -24,7 +24,10 @@ put-walk-spec =
     (λ c κs. ((c .before .before .before .before .before .before .pre .0 .0, c .loop-test .taken), c .before .before .before .before .before .before .pre .1))  -- shared-above-requires
     (λ c. search needs)  -- mul-slot-of
     (λ c. c .before .before .loop-test .taken)  -- shared-slice-read-slot-of
-    (λ c κs. (c .before .before .before .before .before .before .before .before .pre .0 .0, here-refers (stepsOf (c .before .before .before .before .before .before .before .before .args .path .now)) (c .before .before .before .before .before .before .before .before .pre .1) _ (c .before .before .loop-test .taken)))  -- slot-of-requires
+    -- slot-of-requires
+    (λ c κs.
+    let start = c .before .before .before .before .before .before .before .before in
+    (start .pre .0 .0, here-refers (stepsOf (start .args .path .now)) (start .pre .1) _ (c .before .before .loop-test .taken)))
     -- put-element-requires
     (λ c κs.
     let start = c .before .before .before .before .before .before .before .before .before .before in
@@ -40,5 +43,8 @@ put-walk-spec =
     let put = c .before .before .put-element .ensures in
     walk-next (stepsOf (start .args .path .now)) (start .pre .1) (c .before .before .before .before .before .before .before .before .loop .inv) (c .before .before .before .before .before .before .before .loop-test .taken) (c .before .before .before .before .slot-of .ensures) (c .before .before .before .before .before .before .shared-above .ensures) (put .0) (put .1))
     (λ c. walk-size (stepsOf (c .before .before .before .before .before .before .args .path .now)) (c .before .before .before .before .before .before .pre .1) (c .before .loop .inv))  -- same-length
-    (λ c. walk-end (stepsOf (c .before .before .before .before .before .before .args .path .now)) (c .before .before .before .before .before .before .pre .1) (c .before .loop .inv) (c .loop-test .left))  -- returns
+    -- returns
+    (λ c.
+    let start = c .before .before .before .before .before .before in
+    walk-end (stepsOf (start .args .path .now)) (start .pre .1) (c .before .loop .inv) (c .loop-test .left))
     )

@@ -21,23 +21,44 @@ merge-spec =
     (λ c. search needs)  -- add-n
     (λ c. merge-start _ _ _ _ _ _ (omega arith) (c .before .before .before .before .pre .1))  -- loop-holds
     (λ c. search (needs, c .loop .inv .first, c .loop .inv .second))  -- add-loop
-    (λ c κs. (c .before .before .before .before .before .before .pre .0, (c .before .loop .inv .first, c .before .loop .inv .second, omega (arith, c .loop-test .taken, c .before .loop .inv .total))))  -- takes-first-requires
+    -- takes-first-requires
+    (λ c κs.
+    let start = c .before .before .before .before .before .before in
+    (start .pre .0, (c .before .loop .inv .first, c .before .loop .inv .second, omega (arith, c .loop-test .taken, c .before .loop .inv .total))))
     (λ c. search needs)  -- mul-refs
-    (λ c. first-there (c .before .before .before .before .before .before .before .before .before .pre .0 .1) (c .before .before .before .before .loop .inv) (c .before .before .takes-first .ensures) (c .before .before .before .loop-test .taken) (c .before .if1 .taken))  -- shared-slice-read-refs
+    -- shared-slice-read-refs
+    (λ c.
+    let start = c .before .before .before .before .before .before .before .before .before in
+    first-there (start .pre .0 .1) (c .before .before .before .before .loop .inv) (c .before .before .takes-first .ensures) (c .before .before .before .loop-test .taken) (c .before .if1 .taken))
     (λ c. search needs)  -- add-refs
     (λ c. search needs)  -- mul-refs-2
-    (λ c. merge-room (c .before .before .before .before .before .before .before .before .before .pre .0 .1) (c .before .before .before .before .loop .inv) (c .before .before .before .loop-test .taken))  -- slice-write-refs
+    -- slice-write-refs
+    (λ c.
+    let start = c .before .before .before .before .before .before .before .before .before in
+    merge-room (start .pre .0 .1) (c .before .before .before .before .loop .inv) (c .before .before .before .loop-test .taken))
     (λ c. search needs)  -- add-i
     (λ c. omega (arith, c .before .before .before .loop-test .taken))  -- loop-less
-    (λ c. merge-first (c .before .before .before .before .before .before .before .before .before .pre .0 .1) (c .before .before .before .before .loop .inv) (c .before .before .takes-first .ensures) (c .before .before .before .loop-test .taken) (c .before .if1 .taken))  -- loop-again
+    -- loop-again
+    (λ c.
+    let start = c .before .before .before .before .before .before .before .before .before in
+    merge-first (start .pre .0 .1) (c .before .before .before .before .loop .inv) (c .before .before .takes-first .ensures) (c .before .before .before .loop-test .taken) (c .before .if1 .taken))
     (λ c. search needs)  -- mul-refs-3
-    (λ c. second-there (c .before .before .before .before .before .before .before .before .before .pre .0 .1) (c .before .before .before .before .loop .inv) (c .before .before .takes-first .ensures) (c .before .before .before .loop-test .taken) (c .before .if1 .left))  -- shared-slice-read-refs-2
+    -- shared-slice-read-refs-2
+    (λ c.
+    let start = c .before .before .before .before .before .before .before .before .before in
+    second-there (start .pre .0 .1) (c .before .before .before .before .loop .inv) (c .before .before .takes-first .ensures) (c .before .before .before .loop-test .taken) (c .before .if1 .left))
     (λ c. search needs)  -- add-refs-2
     (λ c. search needs)  -- mul-refs-4
-    (λ c. merge-room (c .before .before .before .before .before .before .before .before .before .pre .0 .1) (c .before .before .before .before .loop .inv) (c .before .before .before .loop-test .taken))  -- slice-write-refs-2
+    -- slice-write-refs-2
+    (λ c.
+    let start = c .before .before .before .before .before .before .before .before .before in
+    merge-room (start .pre .0 .1) (c .before .before .before .before .loop .inv) (c .before .before .before .loop-test .taken))
     (λ c. search needs)  -- add-j
     (λ c. omega (arith, c .before .before .before .loop-test .taken))  -- loop-less-2
-    (λ c. merge-second (c .before .before .before .before .before .before .before .before .before .pre .0 .1) (c .before .before .before .before .loop .inv) (c .before .before .takes-first .ensures) (c .before .before .before .loop-test .taken) (c .before .if1 .left))  -- loop-again-2
+    -- loop-again-2
+    (λ c.
+    let start = c .before .before .before .before .before .before .before .before .before in
+    merge-second (start .pre .0 .1) (c .before .before .before .before .loop .inv) (c .before .before .takes-first .ensures) (c .before .before .before .loop-test .taken) (c .before .if1 .left))
     (λ c. c .before .loop .inv .size)  -- same-length
     (λ c. merge-end (c .before .before .before .before .before .before .pre .0 .1) (c .before .loop .inv) (c .loop-test .left))  -- returns
     )

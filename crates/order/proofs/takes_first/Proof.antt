@@ -12,10 +12,19 @@ takes-first-spec =
     (λ c. second-ended (c .before .before .before .before .before .pre .0 .1) (c .before .if1 .left) (c .if2 .taken))  -- returns-2
     (λ c. search needs)  -- mul-slot-of
     (λ c. search needs)  -- shared-slice-read-slot-of
-    (λ c κs. (c .before .before .before .before .before .before .pre .0 .0, first-valid (c .before .before .before .before .before .before .pre .0 .1) _ (c .before .before .if1 .left)))  -- slot-of-requires
+    -- slot-of-requires
+    (λ c κs.
+    let start = c .before .before .before .before .before .before in
+    (start .pre .0 .0, first-valid (start .pre .0 .1) _ (c .before .before .if1 .left)))
     (λ c. search needs)  -- mul-slot-of-2
     (λ c. search needs)  -- shared-slice-read-slot-of-2
-    (λ c κs. (c .before .before .before .before .before .before .before .before .pre .0 .0, second-valid (c .before .before .before .before .before .before .before .before .pre .0 .1) _ (c .before .before .before .if2 .left)))  -- slot-of-requires-2
+    -- slot-of-requires-2
+    (λ c κs.
+    let start = c .before .before .before .before .before .before .before .before in
+    (start .pre .0 .0, second-valid (start .pre .0 .1) _ (c .before .before .before .if2 .left)))
     (λ c κs. (c .before .before .slot-of .ensures .1, c .slot-of2 .ensures .1))  -- compare-requires
-    (λ c. by-order (c .before .before .before .before .before .before .before .before .before .before .pre .0 .1) (c .before .before .before .before .before .before .if1 .left) (c .before .before .before .before .before .if2 .left) (c .before .before .before .slot-of .ensures) (c .before .slot-of2 .ensures) (c .compare .ensures))  -- returns-3
+    -- returns-3
+    (λ c.
+    let start = c .before .before .before .before .before .before .before .before .before .before in
+    by-order (start .pre .0 .1) (c .before .before .before .before .before .before .if1 .left) (c .before .before .before .before .before .if2 .left) (c .before .before .before .slot-of .ensures) (c .before .slot-of2 .ensures) (c .compare .ensures))
     )

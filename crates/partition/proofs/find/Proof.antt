@@ -22,8 +22,14 @@ find-spec =
     (λ c κs. facts (c .before .before .pre) .size)  -- count-requires
     (λ c. find-start (c .before .before .before .pre) _ (c .count .ensures))  -- loop-holds
     (λ c κs. (facts (c .before .before .before .before .before .pre) .size, omega (arith, facts (c .before .before .before .before .before .pre) .few)))  -- slot-at-requires
-    (λ c κs. formed-readable (c .before .before .before .before .before .before .pre) (c .before .before .before .count .ensures) (c .before .loop-test .taken) (c .slot-at .ensures))  -- compare-path-requires
-    (λ c κs. (formed-readable (c .before .before .before .before .before .before .before .before .before .pre) (c .before .before .before .before .before .before .count .ensures) (c .before .before .before .before .loop-test .taken) (c .before .before .before .slot-at .ensures), c .before .before .compare-path .ensures .shared-is))  -- is-same-requires
+    -- compare-path-requires
+    (λ c κs.
+    let start = c .before .before .before .before .before .before in
+    formed-readable (start .pre) (c .before .before .before .count .ensures) (c .before .loop-test .taken) (c .slot-at .ensures))
+    -- is-same-requires
+    (λ c κs.
+    let start = c .before .before .before .before .before .before .before .before .before in
+    (formed-readable (start .pre) (c .before .before .before .before .before .before .count .ensures) (c .before .before .before .before .loop-test .taken) (c .before .before .before .slot-at .ensures), c .before .before .compare-path .ensures .shared-is))
     (λ c. find-here (c .before .before .before .before .before .before .loop .inv) (c .before .before .before .before .before .loop-test .taken) (c .before .before .before .before .slot-at .ensures) (c .before .before .before .compare-path .ensures) (c .before .if1 .taken) (c .is-same .ensures))  -- returns
     (λ c. search needs)  -- add-i
     (λ c. search needs)  -- loop-less

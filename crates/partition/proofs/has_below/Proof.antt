@@ -11,8 +11,14 @@ has-below-spec =
     (tie.spec
     (λ c. search needs)  -- find-requires
     (λ c κs. facts (c .before .before .before .pre) .size)  -- count-requires
-    (λ c. below-end (c .before .before .before .before .before .args .path .now) (run-start (c .before .before .before .before .before .pre) _ (c .before .count .ensures) (c .before .before .find .ensures .at-is)) (c .if1 .taken))  -- returns
+    -- returns
+    (λ c.
+    let start = c .before .before .before .before .before in
+    below-end (start .args .path .now) (run-start (start .pre) _ (c .before .count .ensures) (c .before .before .find .ensures .at-is)) (c .if1 .taken))
     (λ c κs. (facts (c .before .before .before .before .before .pre) .size, omega (arith, facts (c .before .before .before .before .before .pre) .few)))  -- slot-at-requires
     (λ c κs. formed-readable (c .before .before .before .before .before .before .pre) (c .before .before .count .ensures) (c .before .if1 .left) (c .slot-at .ensures))  -- compare-path-requires
-    (λ c. below-here (c .before .before .before .before .before .before .before .before .args .path .now) (run-start (c .before .before .before .before .before .before .before .before .pre) _ (c .before .before .before .before .count .ensures) (c .before .before .before .before .before .find .ensures .at-is)) (c .before .before .before .if1 .left) (c .before .before .slot-at .ensures) (c .before .compare-path .ensures))  -- returns-2
+    -- returns-2
+    (λ c.
+    let start = c .before .before .before .before .before .before .before .before in
+    below-here (start .args .path .now) (run-start (start .pre) _ (c .before .before .before .before .count .ensures) (c .before .before .before .before .before .find .ensures .at-is)) (c .before .before .before .if1 .left) (c .before .before .slot-at .ensures) (c .before .compare-path .ensures))
     )

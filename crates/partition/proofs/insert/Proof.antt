@@ -12,20 +12,53 @@ pub insert-spec : {M : Type 1} → statement M
 insert-spec =
     tie.close
     (tie.spec
-    (λ c. omega (arith, facts (c .before .before .before .before .pre .0 .formed) .size, room-within (c .before .before .before .before .pre .0), c .before .before .before .before .pre .0 .free))  -- slice-read-c
-    (λ c. omega (arith, facts (c .before .before .before .before .pre .0 .formed) .size, room-within (c .before .before .before .before .pre .0), c .before .before .before .before .pre .0 .free))  -- mul-start
-    (λ c. omega (arith, facts (c .before .before .before .before .pre .0 .formed) .size, room-within (c .before .before .before .before .pre .0), c .before .before .before .before .pre .0 .free))  -- add-start
-    (λ c. omega (arith, facts (c .before .before .before .before .pre .0 .formed) .size, room-within (c .before .before .before .before .pre .0), c .before .before .before .before .pre .0 .free))  -- add-end
-    (λ c. omega (arith, facts (c .before .before .before .before .pre .0 .formed) .size, room-within (c .before .before .before .before .pre .0), c .before .before .before .before .pre .0 .free))  -- sub-shift-up
-    (λ c. omega (arith, facts (c .before .before .before .before .pre .0 .formed) .size, room-within (c .before .before .before .before .pre .0), c .before .before .before .before .pre .0 .free))  -- part-shift-up-start
-    (λ c. omega (arith, facts (c .before .before .before .before .pre .0 .formed) .size, room-within (c .before .before .before .before .pre .0), c .before .before .before .before .pre .0 .free))  -- part-shift-up-end
-    (λ c κs. omega (arith, lent-size (c .before .before .before .before .before .pre .0 .formed) (c .before .before .before .before .before .args .at) (room-within (c .before .before .before .before .before .pre .0)), room-within (c .before .before .before .before .before .pre .0), c .before .before .before .before .before .pre .0 .free))  -- shift-up-requires
+    -- slice-read-c
+    (λ c.
+    let start = c .before .before .before .before in
+    omega (arith, facts (start .pre .0 .formed) .size, room-within (start .pre .0), start .pre .0 .free))
+    -- mul-start
+    (λ c.
+    let start = c .before .before .before .before in
+    omega (arith, facts (start .pre .0 .formed) .size, room-within (start .pre .0), start .pre .0 .free))
+    -- add-start
+    (λ c.
+    let start = c .before .before .before .before in
+    omega (arith, facts (start .pre .0 .formed) .size, room-within (start .pre .0), start .pre .0 .free))
+    -- add-end
+    (λ c.
+    let start = c .before .before .before .before in
+    omega (arith, facts (start .pre .0 .formed) .size, room-within (start .pre .0), start .pre .0 .free))
+    -- sub-shift-up
+    (λ c.
+    let start = c .before .before .before .before in
+    omega (arith, facts (start .pre .0 .formed) .size, room-within (start .pre .0), start .pre .0 .free))
+    -- part-shift-up-start
+    (λ c.
+    let start = c .before .before .before .before in
+    omega (arith, facts (start .pre .0 .formed) .size, room-within (start .pre .0), start .pre .0 .free))
+    -- part-shift-up-end
+    (λ c.
+    let start = c .before .before .before .before in
+    omega (arith, facts (start .pre .0 .formed) .size, room-within (start .pre .0), start .pre .0 .free))
+    -- shift-up-requires
+    (λ c κs.
+    let start = c .before .before .before .before .before in
+    omega (arith, lent-size (start .pre .0 .formed) (start .args .at) (room-within (start .pre .0)), room-within (start .pre .0), start .pre .0 .free))
     (λ c. search needs)  -- sub-write
     (λ c. search needs)  -- part-write-start
-    (λ c. omega (arith, facts (c .before .before .before .before .before .before .before .before .pre .0 .formed) .size, room-within (c .before .before .before .before .before .before .before .before .pre .0), c .before .before .before .before .before .before .before .before .pre .0 .free, c .before .part .given))  -- part-write-end
+    -- part-write-end
+    (λ c.
+    let start = c .before .before .before .before .before .before .before .before in
+    omega (arith, facts (start .pre .0 .formed) .size, room-within (start .pre .0), start .pre .0 .free, c .before .part .given))
     (λ c. search needs)  -- write-requires
     (λ c. search needs)  -- add-part
-    (λ c. omega (arith, facts (c .before .before .before .before .before .before .before .before .before .before .before .before .pre .0 .formed) .size, room-within (c .before .before .before .before .before .before .before .before .before .before .before .before .pre .0), c .before .before .before .before .before .before .before .before .before .before .before .before .pre .0 .free, c .before .before .before .before .before .part .given, c .before .part2 .given))  -- slice-write-part
+    -- slice-write-part
+    (λ c.
+    let start = c .before .before .before .before .before .before .before .before .before .before .before .before in
+    omega (arith, facts (start .pre .0 .formed) .size, room-within (start .pre .0), start .pre .0 .free, c .before .before .before .before .before .part .given, c .before .part2 .given))
     (λ c. simp length-set (omega (arith, c .before .before .before .before .before .part .given, c .before .part2 .given)))  -- same-length
-    (λ c. room-put (stepsOf (c .before .before .before .before .before .before .before .before .before .before .before .before .args .path .now)) _ (c .before .before .before .before .before .before .before .before .before .before .before .before .pre .0) (put-in-bytes (c .before .before .before .before .before .before .before .before .before .before .before .before .pre .0 .formed) _ (c .before .before .before .before .before .before .before .before .before .before .before .before .args .at) (room-within (c .before .before .before .before .before .before .before .before .before .before .before .before .pre .0)) (c .before .before .before .before .before .before .before .before .before .before .before .before .pre .0 .free) (c .before .before .before .before .before .before .shift-up .ensures) (c .before .before .write .ensures)))  -- returns
+    -- returns
+    (λ c.
+    let start = c .before .before .before .before .before .before .before .before .before .before .before .before in
+    room-put (stepsOf (start .args .path .now)) _ (start .pre .0) (put-in-bytes (start .pre .0 .formed) _ (start .args .at) (room-within (start .pre .0)) (start .pre .0 .free) (c .before .before .before .before .before .before .shift-up .ensures) (c .before .before .write .ensures)))
     )

@@ -14,6 +14,9 @@ may-follow-spec =
     (λ c. search needs)  -- parent-ends-in-requires
     (λ c. free-parent _ _ _ (c .before .before .before .before .compare .ensures) (c .before .before .if1 .left) (c .before .parent-ends-in .ensures) (c .if2 .taken))  -- returns-2
     (λ c. search needs)  -- depth-requires
-    (λ c. omega (arith, shared-small _ _ (c .before .before .before .before .before .before .compare .ensures) (c .before .before .before .before .before .before .before .before .before .pre .0 .steps)))  -- add-result
+    -- add-result
+    (λ c.
+    let start = c .before .before .before .before .before .before .before .before .before in
+    omega (arith, shared-small _ _ (c .before .before .before .before .before .before .compare .ensures) (start .pre .0 .steps)))
     (λ c. shared-parent _ _ _ (c .before .before .before .before .before .before .compare .ensures) (c .before .before .before .before .if1 .left) (c .before .before .before .parent-ends-in .ensures) (c .before .before .if2 .left) (c .before .depth .ensures))  -- returns-3
     )

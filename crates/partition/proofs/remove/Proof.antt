@@ -9,7 +9,14 @@ remove-spec =
     tie.close
     (tie.spec
     (λ c. search needs)  -- run-length-requires
-    (λ c κs. (c .before .before .before .before .before .pre .0, run-within (c .before .before .before .before .before .pre .0) _ (c .before .before .before .before .before .pre .1) (c .before .run-length .ensures)))  -- take-out-requires
+    -- take-out-requires
+    (λ c κs.
+    let start = c .before .before .before .before .before in
+    (start .pre .0, run-within (start .pre .0) _ (start .pre .1) (c .before .run-length .ensures)))
     (λ c. search needs)  -- same-length
-    (λ c. (c .before .before .before .before .run-length .ensures, run-removed (c .before .before .before .before .before .before .before .before .pre .0) _ (c .before .before .before .before .before .before .before .before .pre .1) (c .before .before .before .before .run-length .ensures) (c .before .before .take-out .ensures)))  -- returns
+    -- returns
+    (λ c.
+    let start = c .before .before .before .before .before .before .before .before in
+    let run-length = c .before .before .before .before .run-length .ensures in
+    (run-length, run-removed (start .pre .0) _ (start .pre .1) (run-length) (c .before .before .take-out .ensures)))
     )

@@ -18,5 +18,8 @@ replace-spec =
     (λ c. omega (arith, c .before .before .pre .1, facts (c .before .before .pre .0) .few, facts (c .before .before .pre .0) .size))  -- part-replace-content-end
     (λ c. search needs)  -- replace-content-requires
     (λ c. search needs)  -- same-length
-    (λ c. put-over (c .before .before .before .before .before .before .pre .0) (c .before .before .before .before .before .before .args .at) _ (c .before .before .before .before .before .before .pre .1) (c .before .before .replace-content .ensures))  -- returns
+    -- returns
+    (λ c.
+    let start = c .before .before .before .before .before .before in
+    put-over (start .pre .0) (start .args .at) _ (start .pre .1) (c .before .before .replace-content .ensures))
     )

@@ -22,12 +22,21 @@ run-length-spec =
     (λ c κs. facts (c .before .before .pre .0) .size)  -- count-requires
     (λ c. run-start (c .before .before .before .pre .0) _ (c .count .ensures) (c .before .before .before .pre .1))  -- loop-holds
     (λ c κs. (facts (c .before .before .before .before .before .pre .0) .size, omega (arith, facts (c .before .before .before .before .before .pre .0) .few)))  -- slot-at-requires
-    (λ c κs. formed-readable (c .before .before .before .before .before .before .pre .0) (c .before .before .before .count .ensures) (c .before .loop-test .taken) (c .slot-at .ensures))  -- compare-path-requires
+    -- compare-path-requires
+    (λ c κs.
+    let start = c .before .before .before .before .before .before in
+    formed-readable (start .pre .0) (c .before .before .before .count .ensures) (c .before .loop-test .taken) (c .slot-at .ensures))
     (λ c. search needs)  -- sub-result
-    (λ c. run-stop (c .before .before .before .before .before .before .before .before .before .args .path .now) (c .before .before .before .before .before .loop .inv) (c .before .before .before .before .loop-test .taken) (c .before .before .before .slot-at .ensures) (c .before .before .compare-path .ensures) (c .if1 .taken))  -- returns
+    -- returns
+    (λ c.
+    let start = c .before .before .before .before .before .before .before .before .before in
+    run-stop (start .args .path .now) (c .before .before .before .before .before .loop .inv) (c .before .before .before .before .loop-test .taken) (c .before .before .before .slot-at .ensures) (c .before .before .compare-path .ensures) (c .if1 .taken))
     (λ c. search needs)  -- add-i
     (λ c. search needs)  -- loop-less
-    (λ c. run-next (c .before .before .before .before .before .before .before .before .before .args .path .now) (c .before .before .before .before .before .loop .inv) (c .before .before .before .before .loop-test .taken) (c .before .before .before .slot-at .ensures) (c .before .before .compare-path .ensures) (c .if1 .left))  -- loop-again
+    -- loop-again
+    (λ c.
+    let start = c .before .before .before .before .before .before .before .before .before in
+    run-next (start .args .path .now) (c .before .before .before .before .before .loop .inv) (c .before .before .before .before .loop-test .taken) (c .before .before .before .slot-at .ensures) (c .before .before .compare-path .ensures) (c .if1 .left))
     (λ c. search needs)  -- sub-result-2
     (λ c. run-end (c .before .before .before .before .before .args .path .now) (c .before .loop .inv) (c .loop-test .left))  -- returns-2
     )

@@ -17,7 +17,10 @@ take-out-spec =
     (λ c. omega (arith, facts (c .before .before .pre .0) .size, facts (c .before .before .pre .0) .few))  -- part-shift-down-start
     (λ c. omega (arith, facts (c .before .before .pre .0) .size, facts (c .before .before .pre .0) .few))  -- part-shift-down-end
     (λ c. omega (arith, facts (c .before .before .before .pre .0) .size, facts (c .before .before .before .pre .0) .few))  -- mul-shift-down
-    (λ c κs. omega (arith, lent-size (c .before .before .before .pre .0) (c .before .before .before .args .at) (omega (arith, c .before .before .before .pre .1)), c .before .before .before .pre .1, facts (c .before .before .before .pre .0) .few))  -- shift-down-requires
+    -- shift-down-requires
+    (λ c κs.
+    let start = c .before .before .before in
+    omega (arith, lent-size (start .pre .0) (start .args .at) (omega (arith, start .pre .1)), start .pre .1, facts (start .pre .0) .few))
     (λ c. search needs)  -- cast-part
     (λ c. search needs)  -- sub-part
     (λ c. omega (arith, facts (c .before .before .before .before .before .before .pre .0) .size, c .before .part .given))  -- slice-write-part

@@ -15,15 +15,27 @@ head-of-spec =
     (λ c. search needs)  -- enum-told
     (λ c. let l = c .before .before .before .before .args .line .now in head-none (number-none 255 0 l (c .before .before .number-at .ensures) (c .enum-told .given .1)))  -- returns
     (λ c. search needs)  -- holds-requires
-    (λ c. let l = c .before .before .before .before .before .before .before .args .line .now in head-untabbed l (number-is 255 0 l (c .before .before .before .before .before .number-at .ensures) (c .before .before .before .subject .given .1)) (c .before .holds .ensures) (c .if1 .taken))  -- returns-2
-    (λ c. let l = c .before .before .before .before .before .before .before .args .line .now in omega (arith, head-within l (number-is 255 0 l (c .before .before .before .before .before .number-at .ensures) (c .before .before .before .subject .given .1)) (c .before .holds .ensures) (c .if1 .left)))  -- add-holds
+    -- returns-2
+    (λ c.
+    let start = c .before .before .before .before .before .before .before in
+    let l = start .args .line .now in head-untabbed l (number-is 255 0 l (c .before .before .before .before .before .number-at .ensures) (c .before .before .before .subject .given .1)) (c .before .holds .ensures) (c .if1 .taken))
+    -- add-holds
+    (λ c.
+    let start = c .before .before .before .before .before .before .before in
+    let l = start .args .line .now in omega (arith, head-within l (number-is 255 0 l (c .before .before .before .before .before .number-at .ensures) (c .before .before .before .subject .given .1)) (c .before .holds .ensures) (c .if1 .left)))
     (λ c. search needs)  -- holds-requires-2
     -- returns-3
     (λ c.
     let l = c .before .before .before .before .before .before .before .before .before .args .line .now in
     head-unparted l (number-is 255 0 l (c .before .before .before .before .before .before .before .number-at .ensures) (c .before .before .before .before .before .subject .given .1)) (c .before .before .before .holds .ensures) (c .before .before .if1 .left) (c .before .holds2 .ensures) (c .if2 .taken))
-    (λ c. let l = c .before .before .before .before .before .before .before .before .before .args .line .now in omega (arith, (number-is 255 0 l (c .before .before .before .before .before .before .before .number-at .ensures) (c .before .before .before .before .before .subject .given .1)) .2 .small))  -- cast-t8
-    (λ c. let l = c .before .before .before .before .before .before .before .before .before .args .line .now in omega (arith, head-within l (number-is 255 0 l (c .before .before .before .before .before .before .before .number-at .ensures) (c .before .before .before .before .before .subject .given .1)) (c .before .before .before .holds .ensures) (c .before .before .if1 .left)))  -- add-t7
+    -- cast-t8
+    (λ c.
+    let start = c .before .before .before .before .before .before .before .before .before in
+    let l = start .args .line .now in omega (arith, (number-is 255 0 l (c .before .before .before .before .before .before .before .number-at .ensures) (c .before .before .before .before .before .subject .given .1)) .2 .small))
+    -- add-t7
+    (λ c.
+    let start = c .before .before .before .before .before .before .before .before .before in
+    let l = start .args .line .now in omega (arith, head-within l (number-is 255 0 l (c .before .before .before .before .before .before .before .number-at .ensures) (c .before .before .before .before .before .subject .given .1)) (c .before .before .before .holds .ensures) (c .before .before .if1 .left)))
     -- shared-slice-read-t10
     (λ c.
     let l = c .before .before .before .before .before .before .before .before .before .before .args .line .now in

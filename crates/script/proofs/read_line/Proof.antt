@@ -20,7 +20,11 @@ read-line-spec =
     (λ c. search needs)  -- enum-known-steps
     (λ c. search needs)  -- enum-told-2
     (λ c. search needs)  -- same-length
-    (λ c. let l = c .before .before .before .before .before .before .before .before .before .before .before .before .before .args .line .now in (reads-pathless l (c .before .before .before .before .before .before .before .before .before .head-of .ensures) (c .before .before .before .before .before .before .before .subject .given .1) (c .before .before .before .before .path-at .last .1 .1 .0) (c .before .before .before .before .path-at .ensures) (c .enum-told2 .given .1), tt))  -- returns-3
+    -- returns-3
+    (λ c.
+    let start = c .before .before .before .before .before .before .before .before .before .before .before .before .before in
+    let path-at = c .before .before .before .before .path-at in
+    let l = start .args .line .now in (reads-pathless l (c .before .before .before .before .before .before .before .before .before .head-of .ensures) (c .before .before .before .before .before .before .before .subject .given .1) (path-at .last .1 .1 .0) (path-at .ensures) (c .enum-told2 .given .1), tt))
     -- call-at-requires
     (λ c κs.
     let l = c .before .before .before .before .before .before .before .before .before .before .before .before .before .before .args .line .now in

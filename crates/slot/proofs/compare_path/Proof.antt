@@ -33,5 +33,8 @@ compare-path-spec =
     (λ c. search needs)  -- add-i
     (λ c. search needs)  -- loop-less
     (λ c. share-next (c .before .before .before .before .loop .inv) (search needs) (search needs) (c .before .before .slot-key .ensures) (c .before .lent-key .ensures) (c .if1 .left))  -- loop-again
-    (λ c. compared-path _ (c .before .before .before .before .before .before .args .path .now) (c .before .before .before .depth .ensures) refl (share-end (c .before .loop .inv) (search needs)))  -- returns-2
+    -- returns-2
+    (λ c.
+    let start = c .before .before .before .before .before .before in
+    compared-path _ (start .args .path .now) (c .before .before .before .depth .ensures) refl (share-end (c .before .loop .inv) (search needs)))
     )

@@ -17,5 +17,8 @@ content-valid-spec =
     (λ c. search needs)  -- part-is-allowed-start
     (λ c. search needs)  -- part-is-allowed-end
     (λ c. search needs)  -- is-allowed-requires
-    (λ c. value-short _ (c .before .before .before .before .before .before .before .pre) (c .before .before .before .before .before .value-length .ensures) (c .before .before .wide .ensures) (c .is-allowed .ensures))  -- returns-2
+    -- returns-2
+    (λ c.
+    let start = c .before .before .before .before .before .before .before in
+    value-short _ (start .pre) (c .before .before .before .before .before .value-length .ensures) (c .before .before .wide .ensures) (c .is-allowed .ensures))
     )

@@ -11,7 +11,16 @@ holds-below-spec =
     (tie.spec
     (λ c. search needs)  -- dominates-requires
     (λ c. not-below (c .before .before .before .before .pre) (stepsOf (c .before .before .before .before .args .path .now)) _ (c .before .dominates .ensures) (c .if1 .taken))  -- returns
-    (λ c κs. (c .before .before .before .before .pre .size, dominated (c .before .before .before .before .pre) (stepsOf (c .before .before .before .before .args .path .now)) _ (c .before .dominates .ensures) (c .if1 .left)))  -- partition-of-requires
-    (λ c κs. part-formed (c .before .before .before .before .before .pre) (stepsOf (c .before .before .before .before .before .args .path .now)) _ (c .before .before .dominates .ensures) (c .before .if1 .left) (c .partition-of .ensures))  -- has-below-requires
-    (λ c. by-below (c .before .before .before .before .before .before .pre) (stepsOf (c .before .before .before .before .before .before .args .path .now)) _ (c .before .before .before .dominates .ensures) (c .before .before .if1 .left) (c .before .partition-of .ensures) (c .has-below .ensures))  -- returns-2
+    -- partition-of-requires
+    (λ c κs.
+    let start = c .before .before .before .before in
+    (start .pre .size, dominated (start .pre) (stepsOf (start .args .path .now)) _ (c .before .dominates .ensures) (c .if1 .left)))
+    -- has-below-requires
+    (λ c κs.
+    let start = c .before .before .before .before .before in
+    part-formed (start .pre) (stepsOf (start .args .path .now)) _ (c .before .before .dominates .ensures) (c .before .if1 .left) (c .partition-of .ensures))
+    -- returns-2
+    (λ c.
+    let start = c .before .before .before .before .before .before in
+    by-below (start .pre) (stepsOf (start .args .path .now)) _ (c .before .before .before .dominates .ensures) (c .before .before .if1 .left) (c .before .partition-of .ensures) (c .has-below .ensures))
     )

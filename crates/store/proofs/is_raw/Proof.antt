@@ -11,6 +11,9 @@ is-raw-spec =
     (λ c. search needs)  -- dominates-requires
     (λ c. not-dominated _ _ _ (c .before .dominates .ensures) (c .if1 .taken))  -- returns
     (λ c κs. (c .before .before .before .pre, is-dominated _ _ (c .before .before .before .args .store .now) (c .before .dominates .ensures) (c .if1 .left)))  -- partition-of-requires
-    (λ c κs. (c .partition-of .ensures .1, dominated-lt _ _ (is-dominated _ _ (c .before .before .before .before .args .store .now) (c .before .before .dominates .ensures) (c .before .if1 .left))))  -- is-well-formed-requires
+    -- is-well-formed-requires
+    (λ c κs.
+    let start = c .before .before .before .before in
+    (c .partition-of .ensures .1, dominated-lt _ _ (is-dominated _ _ (start .args .store .now) (c .before .before .dominates .ensures) (c .before .if1 .left))))
     (λ c. by-formed _ _ _ (c .before .before .before .dominates .ensures) (c .before .before .if1 .left) (c .before .partition-of .ensures) (c .is-well-formed .ensures))  -- returns-2
     )

@@ -14,7 +14,10 @@ put-value-spec =
     (tie.spec
     (λ c. search needs)  -- wide-requires
     (λ c. search needs)  -- rule-of-requires
-    (λ c κs. measure-length _ (c .before .before .before .before .before .before .pre .1) (c .before .before .before .wide .ensures) (c .before .before .rule-of .ensures) (c .before .if1 .taken))  -- measure-of-requires
+    -- measure-of-requires
+    (λ c κs.
+    let start = c .before .before .before .before .before .before in
+    measure-length _ (start .pre .1) (c .before .before .before .wide .ensures) (c .before .before .rule-of .ensures) (c .before .if1 .taken))
     (λ c. search needs)  -- put-signed-requires
     (λ c. search needs)  -- same-length
     (λ c.

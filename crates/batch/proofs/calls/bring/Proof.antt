@@ -17,10 +17,21 @@ bring-spec =
     (λ c. search needs)  -- sub-text
     (λ c. search needs)  -- part-text-start
     (λ c. search needs)  -- part-text-end
-    (λ c κs. text-short (c .before .before .before .before .before .before .before .before .args .line .now) (c .before .before .text-start .result) _ (c .before .before .before .before .before .before .before .before .pre .0))  -- copy-requires
+    -- copy-requires
+    (λ c κs.
+    let start = c .before .before .before .before .before .before .before .before in
+    text-short (start .args .line .now) (c .before .before .text-start .result) _ (start .pre .0))
     (λ c. (group-brought (c .before .before .before .before .args .line .now) (c .enum-told .given .1) (c .before .before .before .before .args .bytes .now), omega arith))  -- returns
     (λ c. search needs)  -- same-length
-    (λ c. (measure-brought (c .before .before .before .before .before .before .before .before .before .args .line .now) (c .before .before .before .before .before .v .given .1) (c .before .before .put-measure .last .1 .0) (c .before .before .put-measure .ensures), c .before .before .before .before .before .before .before .before .before .pre .1))  -- returns-2
+    -- returns-2
+    (λ c.
+    let start = c .before .before .before .before .before .before .before .before .before in
+    let put-measure = c .before .before .put-measure in
+    (measure-brought (start .args .line .now) (c .before .before .before .before .before .v .given .1) (put-measure .last .1 .0) (put-measure .ensures), start .pre .1))
     (λ c. search needs)  -- same-length-2
-    (λ c. (text-brought (c .before .before .before .before .before .before .before .before .before .before .before .args .line .now) (c .before .before .before .before .before .before .before .v2 .given .1) (c .before .before .before .before .before .text-start .ensures) (c .before .before .before .before .before .before .before .before .before .before .before .args .bytes .now) (text-part (c .before .before .before .before .before .before .before .before .before .before .before .args .line .now) (c .before .before .before .before .before .text-start .result)) (c .before .before .copy .ensures .1), text-short (c .before .before .before .before .before .before .before .before .before .before .before .args .line .now) (c .before .before .before .before .before .text-start .result) _ (c .before .before .before .before .before .before .before .before .before .before .before .pre .0)))  -- returns-3
+    -- returns-3
+    (λ c.
+    let start = c .before .before .before .before .before .before .before .before .before .before .before in
+    let text-start = c .before .before .before .before .before .text-start in
+    (text-brought (start .args .line .now) (c .before .before .before .before .before .before .before .v2 .given .1) (text-start .ensures) (start .args .bytes .now) (text-part (start .args .line .now) (text-start .result)) (c .before .before .copy .ensures .1), text-short (start .args .line .now) (text-start .result) _ (start .pre .0)))
     )

@@ -17,5 +17,9 @@ insert-spec =
     (λ c. search needs)  -- part-insert-end
     (λ c. search needs)  -- insert-requires
     (λ c. search needs)  -- same-length
-    (λ c. brought-did (insert (c .before .before .before .before .before .before .before .before .before .before .before .before .args .path .now)) (c .before .before .before .before .before .before .before .before .before .before .before .before .args .line .now) (c .before .before .before .before .before .before .before .before .before .before .before .before .args .v) (c .before .before .before .before .before .before .before .bring .result .size) (c .before .before .before .before .before .before .before .bring .last .1 .1 .0) (c .before .before .before .before .before .before .before .bring .ensures .0) (c .before .before .insert .ensures))  -- returns
+    -- returns
+    (λ c.
+    let start = c .before .before .before .before .before .before .before .before .before .before .before .before in
+    let bring = c .before .before .before .before .before .before .before .bring in
+    brought-did (insert (start .args .path .now)) (start .args .line .now) (start .args .v) (bring .result .size) (bring .last .1 .1 .0) (bring .ensures .0) (c .before .before .insert .ensures))
     )

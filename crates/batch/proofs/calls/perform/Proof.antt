@@ -21,11 +21,23 @@ perform-spec =
     (λ c. search needs)  -- silent-requires-3
     (λ c. search needs)  -- same-length
     (λ c. search needs)  -- same-length-2
-    (λ c. performed-as (on-call (c .before .before .before .before .before .before .before .before .before .before .before .before .before .args .read) (c .before .before .before .before .before .before .before .enum-told .given .1) (c .before .before .before .before .before .before .before .before .before .before .before .before .before .args .path .now) (c .before .before .before .before .before .before .before .before .before .before .before .before .before .args .line .now)) (c .before .before .before .before .view .ensures))  -- returns
+    -- returns
+    (λ c.
+    let start = c .before .before .before .before .before .before .before .before .before .before .before .before .before in
+    performed-as (on-call (start .args .read) (c .before .before .before .before .before .before .before .enum-told .given .1) (start .args .path .now) (start .args .line .now)) (c .before .before .before .before .view .ensures))
     (λ c. search needs)  -- same-length-3
-    (λ c. performed-as (on-call (c .before .before .before .before .before .before .before .before .before .before .before .before .args .read) (c .before .before .before .before .before .before .call .given .1) (c .before .before .before .before .before .before .before .before .before .before .before .before .args .path .now) (c .before .before .before .before .before .before .before .before .before .before .before .before .args .line .now)) (silent-performed (c .before .before .before .before .before .before .before .before .before .before .before .before .args .out .now) (c .before .before .before .insert .ensures) (c .silent .ensures)))  -- returns-2
+    -- returns-2
+    (λ c.
+    let start = c .before .before .before .before .before .before .before .before .before .before .before .before in
+    performed-as (on-call (start .args .read) (c .before .before .before .before .before .before .call .given .1) (start .args .path .now) (start .args .line .now)) (silent-performed (start .args .out .now) (c .before .before .before .insert .ensures) (c .silent .ensures)))
     (λ c. search needs)  -- same-length-4
-    (λ c. performed-as (on-call (c .before .before .before .before .before .before .before .before .before .before .before .before .args .read) (c .before .before .before .before .before .before .call2 .given .1) (c .before .before .before .before .before .before .before .before .before .before .before .before .args .path .now) (c .before .before .before .before .before .before .before .before .before .before .before .before .args .line .now)) (silent-performed (c .before .before .before .before .before .before .before .before .before .before .before .before .args .out .now) (c .before .before .before .update .ensures) (c .silent2 .ensures)))  -- returns-3
+    -- returns-3
+    (λ c.
+    let start = c .before .before .before .before .before .before .before .before .before .before .before .before in
+    performed-as (on-call (start .args .read) (c .before .before .before .before .before .before .call2 .given .1) (start .args .path .now) (start .args .line .now)) (silent-performed (start .args .out .now) (c .before .before .before .update .ensures) (c .silent2 .ensures)))
     (λ c. search needs)  -- same-length-5
-    (λ c. performed-as (on-call (c .before .before .before .before .before .before .before .before .before .before .before .args .read) (c .before .before .before .before .before .enum-told2 .given .1) (c .before .before .before .before .before .before .before .before .before .before .before .args .path .now) (c .before .before .before .before .before .before .before .before .before .before .before .args .line .now)) (silent-performed (c .before .before .before .before .before .before .before .before .before .before .before .args .out .now) (c .before .before .before .delete .ensures) (c .silent3 .ensures)))  -- returns-4
+    -- returns-4
+    (λ c.
+    let start = c .before .before .before .before .before .before .before .before .before .before .before in
+    performed-as (on-call (start .args .read) (c .before .before .before .before .before .enum-told2 .given .1) (start .args .path .now) (start .args .line .now)) (silent-performed (start .args .out .now) (c .before .before .before .delete .ensures) (c .silent3 .ensures)))
     )

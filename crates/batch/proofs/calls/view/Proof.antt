@@ -14,5 +14,8 @@ view-spec =
     (λ c. search needs)  -- view-requires
     (λ c. search needs)  -- same-length
     (λ c. search needs)  -- same-length-2
-    (λ c. view-performed _ _ (c .before .before .before .before .before .before .before .before .args .path .now) (c .before .before .before .before .before .before .before .before .args .out .now) 16384 (c .before .before .before .before .before .before .before .before .pre) (c .before .before .view .ensures))  -- returns
+    -- returns
+    (λ c.
+    let start = c .before .before .before .before .before .before .before .before in
+    view-performed _ _ (start .args .path .now) (start .args .out .now) 16384 (start .pre) (c .before .before .view .ensures))
     )

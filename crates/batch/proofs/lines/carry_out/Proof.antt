@@ -16,16 +16,49 @@ carry-out-spec =
     (λ c. search needs)  -- put-unread-requires
     (λ c. search needs)  -- same-length
     (λ c. search needs)  -- same-length-2
-    (λ c. unread-carried (c .before .before .before .before .before .before .before .before .before .before .before .before .before .before .args .line .now) (c .before .before .before .before .before .before .before .before .read-line .last .1 .0) (c .before .before .before .before .before .before .before .before .read-line .ensures) (c .before .before .before .before .enum-told .given .1) (c .before .before .before .before .before .before .before .before .before .before .before .before .before .before .args .store .now) (c .before .before .put-unread .ensures) (c .before .before .before .before .before .before .before .before .before .before .before .before .before .before .pre .1))  -- returns
-    (λ c. search (needs, steps-few (c .before .before .before .before .before .before .before .before .before .before .before .before .args .line .now) (c .before .before .before .before .before .before .read-line .last .1 .0) (c .before .before .before .before .before .before .read-line .ensures) (c .before .before .read .given .1)))  -- mul-n
+    -- returns
+    (λ c.
+    let start = c .before .before .before .before .before .before .before .before .before .before .before .before .before .before in
+    let read-line = c .before .before .before .before .before .before .before .before .read-line in
+    unread-carried (start .args .line .now) (read-line .last .1 .0) (read-line .ensures) (c .before .before .before .before .enum-told .given .1) (start .args .store .now) (c .before .before .put-unread .ensures) (start .pre .1))
+    -- mul-n
+    (λ c.
+    let start = c .before .before .before .before .before .before .before .before .before .before .before .before in
+    let read-line = c .before .before .before .before .before .before .read-line in
+    search (needs, steps-few (start .args .line .now) (read-line .last .1 .0) (read-line .ensures) (c .before .before .read .given .1)))
     (λ c. search needs)  -- sub-perform
     (λ c. search needs)  -- part-perform-start
-    (λ c. omega (arith, steps-few (c .before .before .before .before .before .before .before .before .before .before .before .before .before .before .args .line .now) (c .before .before .before .before .before .before .before .before .read-line .last .1 .0) (c .before .before .before .before .before .before .before .before .read-line .ensures) (c .before .before .before .before .read .given .1), c .before .before .before .before .before .before .before .path .given, c .before .before .before .before .before .before .before .before .before .before .before .before .before .before .pre .0))  -- part-perform-end
-    (λ c κs. (line-short (c .before .before .before .before .before .before .before .before .before .before .before .before .before .before .before .before .args .line .now) (c .before .before .before .before .before .before .before .before .before .before .read-line .last .1 .0) (c .before .before .before .before .before .before .before .before .before .before .read-line .ensures) (c .before .before .before .before .before .before .read .given .1), omega (arith, c .before .before .before .before .before .before .before .before .before .before .before .before .before .before .before .before .pre .1)))  -- perform-requires
-    (λ c. search (needs, count-few (c .before .before .before .before .before .before .before .before .before .before .before .before .before .before .before .before .before .before .before .before .before .before .before .args .line .now) (c .before .before .before .before .before .before .before .before .before .before .before .before .before .before .before .before .before .read-line .last .1 .0) (c .before .before .before .before .before .before .before .before .before .before .before .before .before .before .before .before .before .read-line .ensures) (c .before .before .before .before .before .before .before .before .before .before .before .before .before .read .given .1) (slice-bytes (c .before .before .before .before .before .before .before .before .before .before .before .before .before .before .before .before .before .read-line .last .1 .0) (c .before .before .before .before .before .before .before .before .before .before .before .before .before .before .before .slice-known4 .given)) (omega (arith, c .before .before .before .before .before .before .before .before .before .before .before .before .before .before .before .before .path .given, c .before .before .before .before .before .before .before .before .before .before .before .before .before .before .before .before .before .before .before .before .before .before .before .pre .0)) (c .before .before .before .before .before .before .perform .ensures)))  -- cast-put-answer
-    (λ c κs. wrote-few (c .before .before .before .before .before .before .before .before .before .before .before .before .before .before .before .before .before .before .before .before .before .before .before .args .line .now) (c .before .before .before .before .before .before .before .before .before .before .before .before .before .before .before .before .before .read-line .last .1 .0) (c .before .before .before .before .before .before .before .before .before .before .before .before .before .before .before .before .before .read-line .ensures) (c .before .before .before .before .before .before .before .before .before .before .before .before .before .read .given .1) (slice-bytes (c .before .before .before .before .before .before .before .before .before .before .before .before .before .before .before .before .before .read-line .last .1 .0) (c .before .before .before .before .before .before .before .before .before .before .before .before .before .before .before .slice-known4 .given)) (omega (arith, c .before .before .before .before .before .before .before .before .before .before .before .before .before .before .before .before .path .given, c .before .before .before .before .before .before .before .before .before .before .before .before .before .before .before .before .before .before .before .before .before .before .before .pre .0)) (c .before .before .before .before .before .before .perform .ensures))  -- put-answer-requires
+    -- part-perform-end
+    (λ c.
+    let start = c .before .before .before .before .before .before .before .before .before .before .before .before .before .before in
+    let read-line = c .before .before .before .before .before .before .before .before .read-line in
+    omega (arith, steps-few (start .args .line .now) (read-line .last .1 .0) (read-line .ensures) (c .before .before .before .before .read .given .1), c .before .before .before .before .before .before .before .path .given, start .pre .0))
+    -- perform-requires
+    (λ c κs.
+    let start = c .before .before .before .before .before .before .before .before .before .before .before .before .before .before .before .before in
+    let read-line = c .before .before .before .before .before .before .before .before .before .before .read-line in
+    (line-short (start .args .line .now) (read-line .last .1 .0) (read-line .ensures) (c .before .before .before .before .before .before .read .given .1), omega (arith, start .pre .1)))
+    -- cast-put-answer
+    (λ c.
+    let start = c .before .before .before .before .before .before .before .before .before .before .before .before .before .before .before .before .before .before .before .before .before .before .before in
+    let read-line = c .before .before .before .before .before .before .before .before .before .before .before .before .before .before .before .before .before .read-line in
+    search (needs, count-few (start .args .line .now) (read-line .last .1 .0) (read-line .ensures) (c .before .before .before .before .before .before .before .before .before .before .before .before .before .read .given .1) (slice-bytes (read-line .last .1 .0) (c .before .before .before .before .before .before .before .before .before .before .before .before .before .before .before .slice-known4 .given)) (omega (arith, c .before .before .before .before .before .before .before .before .before .before .before .before .before .before .before .before .path .given, start .pre .0)) (c .before .before .before .before .before .before .perform .ensures)))
+    -- put-answer-requires
+    (λ c κs.
+    let start = c .before .before .before .before .before .before .before .before .before .before .before .before .before .before .before .before .before .before .before .before .before .before .before in
+    let read-line = c .before .before .before .before .before .before .before .before .before .before .before .before .before .before .before .before .before .read-line in
+    wrote-few (start .args .line .now) (read-line .last .1 .0) (read-line .ensures) (c .before .before .before .before .before .before .before .before .before .before .before .before .before .read .given .1) (slice-bytes (read-line .last .1 .0) (c .before .before .before .before .before .before .before .before .before .before .before .before .before .before .before .slice-known4 .given)) (omega (arith, c .before .before .before .before .before .before .before .before .before .before .before .before .before .before .before .before .path .given, start .pre .0)) (c .before .before .before .before .before .before .perform .ensures))
     (λ c. search needs)  -- same-length-3
     (λ c. search needs)  -- same-length-4
     (λ c. search needs)  -- same-length-5
-    (λ c. call-carried (c .before .before .before .before .before .before .before .before .before .before .before .before .before .before .before .before .before .before .before .before .before .before .before .before .before .before .args .line .now) (c .before .before .before .before .before .before .before .before .before .before .before .before .before .before .before .before .before .before .before .before .read-line .last .1 .0) (c .before .before .before .before .before .before .before .before .before .before .before .before .before .before .before .before .before .before .before .before .read-line .ensures) (c .before .before .before .before .before .before .before .before .before .before .before .before .before .before .before .before .read .given .1) (slice-bytes (c .before .before .before .before .before .before .before .before .before .before .before .before .before .before .before .before .before .before .before .before .read-line .last .1 .0) (c .before .before .before .before .before .before .before .before .before .before .before .before .before .before .before .before .before .before .slice-known4 .given)) (omega (arith, c .before .before .before .before .before .before .before .before .before .before .before .before .before .before .before .before .before .before .before .path .given, c .before .before .before .before .before .before .before .before .before .before .before .before .before .before .before .before .before .before .before .before .before .before .before .before .before .before .pre .0)) (c .before .before .before .before .before .before .before .before .before .perform .ensures) (c .before .before .put-answer .ensures .0) (omega (arith, c .before .before .put-answer .ensures .1, wrote-few (c .before .before .before .before .before .before .before .before .before .before .before .before .before .before .before .before .before .before .before .before .before .before .before .before .before .before .args .line .now) (c .before .before .before .before .before .before .before .before .before .before .before .before .before .before .before .before .before .before .before .before .read-line .last .1 .0) (c .before .before .before .before .before .before .before .before .before .before .before .before .before .before .before .before .before .before .before .before .read-line .ensures) (c .before .before .before .before .before .before .before .before .before .before .before .before .before .before .before .before .read .given .1) (slice-bytes (c .before .before .before .before .before .before .before .before .before .before .before .before .before .before .before .before .before .before .before .before .read-line .last .1 .0) (c .before .before .before .before .before .before .before .before .before .before .before .before .before .before .before .before .before .before .slice-known4 .given)) (omega (arith, c .before .before .before .before .before .before .before .before .before .before .before .before .before .before .before .before .before .before .before .path .given, c .before .before .before .before .before .before .before .before .before .before .before .before .before .before .before .before .before .before .before .before .before .before .before .before .before .before .pre .0)) (c .before .before .before .before .before .before .before .before .before .perform .ensures), c .before .before .before .before .before .before .before .before .before .before .before .before .before .before .before .before .before .before .before .before .before .before .before .before .before .before .pre .1)))  -- returns-2
+    -- returns-2
+    (λ c.
+    let start = c .before .before .before .before .before .before .before .before .before .before .before .before .before .before .before .before .before .before .before .before .before .before .before .before .before .before in
+    let read-line = c .before .before .before .before .before .before .before .before .before .before .before .before .before .before .before .before .before .before .before .before .read-line in
+    let path = c .before .before .before .before .before .before .before .before .before .before .before .before .before .before .before .before .before .before .before .path in
+    let slice-known4 = c .before .before .before .before .before .before .before .before .before .before .before .before .before .before .before .before .before .before .slice-known4 in
+    let read = c .before .before .before .before .before .before .before .before .before .before .before .before .before .before .before .before .read in
+    let perform = c .before .before .before .before .before .before .before .before .before .perform .ensures in
+    let put-answer = c .before .before .put-answer .ensures in
+    call-carried (start .args .line .now) (read-line .last .1 .0) (read-line .ensures) (read .given .1) (slice-bytes (read-line .last .1 .0) (slice-known4 .given)) (omega (arith, path .given, start .pre .0)) (perform) (put-answer .0) (omega (arith, put-answer .1, wrote-few (start .args .line .now) (read-line .last .1 .0) (read-line .ensures) (read .given .1) (slice-bytes (read-line .last .1 .0) (slice-known4 .given)) (omega (arith, path .given, start .pre .0)) (perform), start .pre .1)))
     )

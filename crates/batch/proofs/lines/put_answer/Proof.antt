@@ -17,5 +17,12 @@ put-answer-spec =
     (λ c. search needs)  -- put-decimal-requires-2
     (λ c. search needs)  -- put-byte-requires-2
     (λ c. search needs)  -- same-length
-    (λ c. (wrote-as (answer-line _ _) (then (c .before .before .before .before .before .before .before .before .before .before .before .before .before .before .before .before .before .before .put-bytes .ensures) (then (c .before .before .before .before .before .before .before .before .before .before .before .before .before .before .put-decimal .ensures .0) (then (c .before .before .before .before .before .before .before .before .before .before .put-byte .ensures) (then (c .before .before .before .before .before .before .put-decimal2 .ensures .0) (c .before .before .put-byte2 .ensures))))), omega (arith, c .before .before .before .before .before .before .before .before .before .before .before .before .before .before .before .before .before .before .put-bytes .ensures .ends, c .before .before .before .before .before .before .before .before .before .before .before .before .before .before .put-decimal .ensures .1, c .before .before .before .before .before .before .before .before .before .before .put-byte .ensures .ends, c .before .before .before .before .before .before .put-decimal2 .ensures .1, c .before .before .put-byte2 .ensures .ends)))  -- returns
+    -- returns
+    (λ c.
+    let put-bytes = c .before .before .before .before .before .before .before .before .before .before .before .before .before .before .before .before .before .before .put-bytes .ensures in
+    let put-decimal = c .before .before .before .before .before .before .before .before .before .before .before .before .before .before .put-decimal .ensures in
+    let put-byte = c .before .before .before .before .before .before .before .before .before .before .put-byte .ensures in
+    let put-decimal2 = c .before .before .before .before .before .before .put-decimal2 .ensures in
+    let put-byte2 = c .before .before .put-byte2 .ensures in
+    (wrote-as (answer-line _ _) (then (put-bytes) (then (put-decimal .0) (then (put-byte) (then (put-decimal2 .0) (put-byte2))))), omega (arith, put-bytes .ends, put-decimal .1, put-byte .ends, put-decimal2 .1, put-byte2 .ends)))
     )

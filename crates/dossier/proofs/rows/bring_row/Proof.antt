@@ -9,8 +9,17 @@ bring-row-spec =
     tie.close
     (tie.spec
     (λ c. search needs)  -- is-path-requires
-    (λ c. row-four (c .before .before .before .before .args .path .now) (record { kind = c .before .before .before .before .args .kind; value = c .before .before .before .before .args .value .now }) (c .before .is-path .ensures) (c .if1 .taken))  -- returns
+    -- returns
+    (λ c.
+    let start = c .before .before .before .before in
+    row-four (start .args .path .now) (record { kind = start .args .kind; value = start .args .value .now }) (c .before .is-path .ensures) (c .if1 .taken))
     (λ c. search needs)  -- is-allowed-requires
-    (λ c. row-five (c .before .before .before .before .before .before .args .path .now) (record { kind = c .before .before .before .before .before .before .args .kind; value = c .before .before .before .before .before .before .args .value .now }) (c .before .before .before .is-path .ensures) (c .before .before .if1 .left) (c .before .is-allowed .ensures) (c .if2 .taken))  -- returns-2
-    (λ c. brings (c .before .before .before .before .before .before .args .path .now) (record { kind = c .before .before .before .before .before .before .args .kind; value = c .before .before .before .before .before .before .args .value .now }) (c .before .before .before .is-path .ensures) (c .before .before .if1 .left) (c .before .is-allowed .ensures) (c .if2 .left))  -- returns-3
+    -- returns-2
+    (λ c.
+    let start = c .before .before .before .before .before .before in
+    row-five (start .args .path .now) (record { kind = start .args .kind; value = start .args .value .now }) (c .before .before .before .is-path .ensures) (c .before .before .if1 .left) (c .before .is-allowed .ensures) (c .if2 .taken))
+    -- returns-3
+    (λ c.
+    let start = c .before .before .before .before .before .before in
+    brings (start .args .path .now) (record { kind = start .args .kind; value = start .args .value .now }) (c .before .before .before .is-path .ensures) (c .before .before .if1 .left) (c .before .is-allowed .ensures) (c .if2 .left))
     )

@@ -25,13 +25,19 @@ delete-row-spec =
     (λ c. opening-stops _ _ (delete (c .before .before .before .before .args .path .now)) (lent-stops _ _ (c .before .lent-row .ensures) (c .if1 .taken)) (c .if1 .taken))  -- returns
     (λ c. omega (arith, lent-passed _ (c .before .before .before .before .args .store .now) (c .before .lent-row .ensures) (c .if1 .left) .1))  -- cast-raw-row
     (λ c κs. lent-passed _ (c .before .before .before .before .args .store .now) (c .before .lent-row .ensures) (c .if1 .left) .0)  -- raw-row-requires
-    (λ c. opening-stops _ _ (delete (c .before .before .before .before .before .before .args .path .now)) (raw-behind _ _ (c .before .before .before .lent-row .ensures) (c .before .before .if1 .left) (c .before .raw-row .ensures)) (c .if2 .taken))  -- returns-2
+    -- returns-2
+    (λ c.
+    let start = c .before .before .before .before .before .before in
+    opening-stops _ _ (delete (start .args .path .now)) (raw-behind _ _ (c .before .before .before .lent-row .ensures) (c .before .before .if1 .left) (c .before .raw-row .ensures)) (c .if2 .taken))
     (λ c. search needs)  -- is-path-requires
     (λ c.
     let start = c .before .before .before .before .before .before .before .before in
     opening-passes _ _ (delete (start .args .path .now)) (raw-behind _ _ (c .before .before .before .before .before .lent-row .ensures) (c .before .before .before .before .if1 .left) (c .before .before .before .raw-row .ensures)) (c .before .before .if2 .left)
     (delete-four _ (start .args .store .now) (start .args .path .now) (c .before .is-path .ensures) (c .if3 .taken)))  -- returns-3
-    (λ c. omega (arith, lent-passed _ (c .before .before .before .before .before .before .before .before .args .store .now) (c .before .before .before .before .before .lent-row .ensures) (c .before .before .before .before .if1 .left) .1))  -- cast-own-live-row
+    -- cast-own-live-row
+    (λ c.
+    let start = c .before .before .before .before .before .before .before .before in
+    omega (arith, lent-passed _ (start .args .store .now) (c .before .before .before .before .before .lent-row .ensures) (c .before .before .before .before .if1 .left) .1))
     (λ c κs.
     let e = raw-behind _ (c .before .before .before .before .before .before .before .before .args .store .now) (c .before .before .before .before .before .lent-row .ensures) (c .before .before .before .before .if1 .left) (c .before .before .before .raw-row .ensures) in
     (code-opened _ _ (sym e ∙ c .before .before .if2 .left), passed-four _ (c .before .is-path .ensures) (c .if3 .left)))  -- own-live-row-requires

@@ -39,7 +39,10 @@ insert-row-spec =
     let w : Content = record { kind = start .args .kind; value = start .args .value .now } in
     opening-passes _ _ (insert (start .args .path .now) w) (raw-behind _ _ (c .before .before .before .before .before .lent-row .ensures) (c .before .before .before .before .if1 .left) (c .before .before .before .raw-row .ensures)) (c .before .before .if2 .left)
     (insert-stops _ (start .args .store .now) (start .args .path .now) w (c .before .bring-row .ensures) (c .if3 .taken)))  -- returns-3
-    (λ c. omega (arith, lent-passed _ (c .before .before .before .before .before .before .before .before .before .args .store .now) (c .before .before .before .before .before .lent-row .ensures) (c .before .before .before .before .if1 .left) .1))  -- cast-place-row
+    -- cast-place-row
+    (λ c.
+    let start = c .before .before .before .before .before .before .before .before .before in
+    omega (arith, lent-passed _ (start .args .store .now) (c .before .before .before .before .before .lent-row .ensures) (c .before .before .before .before .if1 .left) .1))
     (λ c κs.
     let start = c .before .before .before .before .before .before .before .before .before in
     let w : Content = record { kind = start .args .kind; value = start .args .value .now } in

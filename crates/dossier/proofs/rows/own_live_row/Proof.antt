@@ -15,6 +15,12 @@ own-live-row-spec =
     (λ c. row-six _ _ (stepsOf (c .before .before .before .before .args .path .now)) (c .before .ends-in .ensures) (c .if1 .taken))  -- returns
     (λ c κs. (c .before .before .before .before .pre .0 .size, dominates-refl _ (c .before .before .before .before .pre .0 .label)))  -- partition-of-requires
     (λ c κs. own-part (opened-own (c .before .before .before .before .before .pre .0)) (c .partition-of .ensures .0))  -- find-requires
-    (λ c. row-seven _ _ (stepsOf (c .before .before .before .before .before .before .before .before .args .path .now)) (c .before .before .before .before .before .ends-in .ensures) (c .before .before .before .before .before .before .before .before .pre .0) (c .before .before .before .before .if1 .left) (c .before .before .before .partition-of .ensures) (c .before .before .find .ensures) (c .if2 .taken))  -- returns-2
-    (λ c. own-live _ _ (stepsOf (c .before .before .before .before .before .before .before .before .args .path .now)) (c .before .before .before .before .before .ends-in .ensures) (c .before .before .before .before .before .before .before .before .pre .0) (c .before .before .before .before .if1 .left) (c .before .before .before .partition-of .ensures) (c .before .before .find .ensures) (c .if2 .left))  -- returns-3
+    -- returns-2
+    (λ c.
+    let start = c .before .before .before .before .before .before .before .before in
+    row-seven _ _ (stepsOf (start .args .path .now)) (c .before .before .before .before .before .ends-in .ensures) (start .pre .0) (c .before .before .before .before .if1 .left) (c .before .before .before .partition-of .ensures) (c .before .before .find .ensures) (c .if2 .taken))
+    -- returns-3
+    (λ c.
+    let start = c .before .before .before .before .before .before .before .before in
+    own-live _ _ (stepsOf (start .args .path .now)) (c .before .before .before .before .before .ends-in .ensures) (start .pre .0) (c .before .before .before .before .if1 .left) (c .before .before .before .partition-of .ensures) (c .before .before .find .ensures) (c .if2 .left))
     )

@@ -11,6 +11,12 @@ seen-row-spec =
     (λ c. search needs)  -- is-view-path-requires
     (λ c. seen-four _ (c .before .before .before .before .args .store .now) (c .before .before .before .before .args .path .now) (c .before .is-view-path .ensures) (c .if1 .taken))  -- returns
     (λ c. search needs)  -- in-view-requires
-    (λ c. seen-seven _ (c .before .before .before .before .before .before .args .store .now) (c .before .before .before .before .before .before .args .path .now) (c .before .before .before .is-view-path .ensures) (c .before .before .if1 .left) (c .before .in-view .ensures) (c .if2 .taken))  -- returns-2
-    (λ c. seen-all _ (c .before .before .before .before .before .before .args .store .now) (c .before .before .before .before .before .before .args .path .now) (c .before .before .before .is-view-path .ensures) (c .before .before .if1 .left) (c .before .in-view .ensures) (c .if2 .left))  -- returns-3
+    -- returns-2
+    (λ c.
+    let start = c .before .before .before .before .before .before in
+    seen-seven _ (start .args .store .now) (start .args .path .now) (c .before .before .before .is-view-path .ensures) (c .before .before .if1 .left) (c .before .in-view .ensures) (c .if2 .taken))
+    -- returns-3
+    (λ c.
+    let start = c .before .before .before .before .before .before in
+    seen-all _ (start .args .store .now) (start .args .path .now) (c .before .before .before .is-view-path .ensures) (c .before .before .if1 .left) (c .before .in-view .ensures) (c .if2 .left))
     )

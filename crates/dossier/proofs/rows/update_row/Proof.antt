@@ -39,7 +39,10 @@ update-row-spec =
     let w : Content = record { kind = start .args .kind; value = start .args .value .now } in
     opening-passes _ _ (update (start .args .path .now) w) (raw-behind _ _ (c .before .before .before .before .before .lent-row .ensures) (c .before .before .before .before .if1 .left) (c .before .before .before .raw-row .ensures)) (c .before .before .if2 .left)
     (update-stops _ (start .args .store .now) (start .args .path .now) w (c .before .bring-row .ensures) (c .if3 .taken)))  -- returns-3
-    (λ c. omega (arith, lent-passed _ (c .before .before .before .before .before .before .before .before .before .args .store .now) (c .before .before .before .before .before .lent-row .ensures) (c .before .before .before .before .if1 .left) .1))  -- cast-own-live-row
+    -- cast-own-live-row
+    (λ c.
+    let start = c .before .before .before .before .before .before .before .before .before in
+    omega (arith, lent-passed _ (start .args .store .now) (c .before .before .before .before .before .lent-row .ensures) (c .before .before .before .before .if1 .left) .1))
     (λ c κs.
     let start = c .before .before .before .before .before .before .before .before .before in
     let w : Content = record { kind = start .args .kind; value = start .args .value .now } in

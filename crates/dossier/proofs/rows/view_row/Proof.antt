@@ -20,7 +20,10 @@ view-row-spec =
     (λ c.
     let start = c .before .before .before .before .before .before in
     opened-stops _ (start .args .store .now) (start .args .path .now) (raw-behind _ _ (c .before .before .before .lent-row .ensures) (c .before .before .if1 .left) (c .before .raw-row .ensures)) (c .if2 .taken))  -- returns-2
-    (λ c. omega (arith, lent-passed _ (c .before .before .before .before .before .before .args .store .now) (c .before .before .before .lent-row .ensures) (c .before .before .if1 .left) .1))  -- cast-seen-row
+    -- cast-seen-row
+    (λ c.
+    let start = c .before .before .before .before .before .before in
+    omega (arith, lent-passed _ (start .args .store .now) (c .before .before .before .lent-row .ensures) (c .before .before .if1 .left) .1))
     (λ c κs.
     let e = raw-behind _ (c .before .before .before .before .before .before .args .store .now) (c .before .before .before .lent-row .ensures) (c .before .before .if1 .left) (c .before .raw-row .ensures) in
     code-opened _ _ (sym e ∙ c .if2 .left))  -- seen-row-requires

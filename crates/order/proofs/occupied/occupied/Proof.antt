@@ -25,7 +25,11 @@ occupied-spec =
     (λ c. search needs)  -- add-k
     (λ c. search (needs, label-lt _ (c .before .before .before .before .before .before .pre .0 .label)))  -- add-n
     (λ c. search needs)  -- loop-less
-    (λ c. fill-yes (c .before .before .before .loop .inv) (c .before .before .loop-test .taken) (c .before .is-occupied .ensures) (c .if1 .taken) (fill-room (c .before .before .before .before .before .before .pre) (c .before .before .before .loop .inv) (c .before .before .loop-test .taken)))  -- loop-again
+    -- loop-again
+    (λ c.
+    let start = c .before .before .before .before .before .before in
+    let loop-test = c .before .before .loop-test in
+    fill-yes (c .before .before .before .loop .inv) (loop-test .taken) (c .before .is-occupied .ensures) (c .if1 .taken) (fill-room (start .pre) (c .before .before .before .loop .inv) (loop-test .taken)))
     (λ c. search (needs, label-lt _ (c .before .before .before .before .before .before .pre .0 .label)))  -- add-n-2
     (λ c. search needs)  -- loop-less-2
     (λ c. fill-no (c .before .before .before .loop .inv) (c .before .before .loop-test .taken) (c .before .is-occupied .ensures) (c .if1 .left))  -- loop-again-2

@@ -16,9 +16,15 @@ value-at-spec =
     (λ c. search needs)  -- add-group-at
     (λ c. search needs)  -- group-at-requires
     (λ c. search needs)  -- add-measure-at
-    (λ c κs. let a = c .before .before .before .before .before .before .args in tab-within (a .line .now) (a .at) (c .before .before .before .holds .ensures) (c .before .before .if2 .left))  -- measure-at-requires
+    -- measure-at-requires
+    (λ c κs.
+    let start = c .before .before .before .before .before .before in
+    let a = start .args in tab-within (a .line .now) (a .at) (c .before .before .before .holds .ensures) (c .before .before .if2 .left))
     (λ c. search needs)  -- add-text-at
-    (λ c κs. let a = c .before .before .before .before .before .before .args in tab-within (a .line .now) (a .at) (c .before .before .before .holds .ensures) (c .before .before .if2 .left))  -- text-at-requires
+    -- text-at-requires
+    (λ c κs.
+    let start = c .before .before .before .before .before .before in
+    let a = start .args in tab-within (a .line .now) (a .at) (c .before .before .before .holds .ensures) (c .before .before .if2 .left))
     -- returns-3
     (λ c.
     let a = c .before .before .before .before .before .before .before .args in

@@ -20,7 +20,10 @@ write-labels-spec =
     Inv-loop
     μ-loop
     (λ c. search needs)  -- clear-requires
-    (λ c. (laid-start 6 labels _ (c .before .before .before .before .before .before .args .labels .now) refl (c .before .before .before .before .before .before .pre .0) (c .before .before .clear .ensures), refl))  -- loop-holds
+    -- loop-holds
+    (λ c.
+    let start = c .before .before .before .before .before .before in
+    (laid-start 6 labels _ (start .args .labels .now) refl (start .pre .0) (c .before .before .clear .ensures), refl))
     (λ c. search needs)  -- mul-labels
     (λ c. search needs)  -- add-labels
     (λ c. search needs)  -- shared-slice-read-labels

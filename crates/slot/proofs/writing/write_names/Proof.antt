@@ -24,7 +24,10 @@ write-names-spec =
     Inv-loop
     μ-loop
     (λ c. search needs)  -- clear-requires
-    (λ c. (laid-start 12 (gather nameBytes) _ (c .before .before .before .before .before .before .args .names .now) refl (c .before .before .before .before .before .before .pre .0) (c .before .before .clear .ensures), refl))  -- loop-holds
+    -- loop-holds
+    (λ c.
+    let start = c .before .before .before .before .before .before in
+    (laid-start 12 (gather nameBytes) _ (start .args .names .now) refl (start .pre .0) (c .before .before .clear .ensures), refl))
     (λ c. search needs)  -- mul-names
     (λ c. search needs)  -- shared-slice-read-names
     (λ c. search needs)  -- mul-names-2

@@ -18,8 +18,17 @@ insert-spec =
     (λ c. search needs)  -- add-end
     (λ c. search needs)  -- sub-insert
     (λ c. search needs)  -- part-insert-start
-    (λ c. omega (arith, label-lt _ (c .before .before .before .before .before .before .before .pre .0 .own .label), c .before .before .before .before .before .before .before .pre .0 .own .size, c .index .ensures .0))  -- part-insert-end
-    (λ c κs. (own-room (stepsOf (c .before .before .before .before .before .before .before .before .args .path .now)) (c .before .before .before .before .before .before .before .before .pre .0) (c .before .index .ensures) (c .before .before .before .partition-of .ensures .0) (c .before .before .find .ensures), c .before .before .before .before .before .before .before .before .pre .1))  -- insert-requires
+    -- part-insert-end
+    (λ c.
+    let start = c .before .before .before .before .before .before .before in
+    omega (arith, label-lt _ (start .pre .0 .own .label), start .pre .0 .own .size, c .index .ensures .0))
+    -- insert-requires
+    (λ c κs.
+    let start = c .before .before .before .before .before .before .before .before in
+    (own-room (stepsOf (start .args .path .now)) (start .pre .0) (c .before .index .ensures) (c .before .before .before .partition-of .ensures .0) (c .before .before .find .ensures), start .pre .1))
     (λ c. search needs)  -- same-length
-    (λ c. own-added (c .before .before .before .before .before .before .before .before .before .before .before .pre .0 .own) (c .before .before .before .before .index .ensures) (stepsOf (c .before .before .before .before .before .before .before .before .before .before .before .args .path .now)) _ (c .before .before .insert .ensures))  -- returns
+    -- returns
+    (λ c.
+    let start = c .before .before .before .before .before .before .before .before .before .before .before in
+    own-added (start .pre .0 .own) (c .before .before .before .before .index .ensures) (stepsOf (start .args .path .now)) _ (c .before .before .insert .ensures))
     )

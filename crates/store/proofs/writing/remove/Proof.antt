@@ -18,8 +18,18 @@ remove-spec =
     (λ c. search needs)  -- add-end
     (λ c. search needs)  -- sub-remove
     (λ c. search needs)  -- part-remove-start
-    (λ c. omega (arith, label-lt _ (c .before .before .before .before .before .before .pre .label), c .before .before .before .before .before .before .pre .size, c .index .ensures .0))  -- part-remove-end
-    (λ c κs. (own-part (c .before .before .before .before .before .before .before .pre) (own-lent (c .before .before .before .before .before .before .before .pre) (c .before .index .ensures)), own-place (c .before .before .before .before .before .before .before .pre) (c .before .index .ensures) (stepsOf (c .before .before .before .before .before .before .before .args .path .now)) (c .before .before .before .partition-of .ensures .0) (c .before .before .find .ensures)))  -- remove-requires
+    -- part-remove-end
+    (λ c.
+    let start = c .before .before .before .before .before .before in
+    omega (arith, label-lt _ (start .pre .label), start .pre .size, c .index .ensures .0))
+    -- remove-requires
+    (λ c κs.
+    let start = c .before .before .before .before .before .before .before in
+    let index = c .before .index .ensures in
+    (own-part (start .pre) (own-lent (start .pre) (index)), own-place (start .pre) (index) (stepsOf (start .args .path .now)) (c .before .before .before .partition-of .ensures .0) (c .before .before .find .ensures)))
     (λ c. search needs)  -- same-length
-    (λ c. own-removed (c .before .before .before .before .before .before .before .before .before .before .pre) (c .before .before .before .before .index .ensures) (stepsOf (c .before .before .before .before .before .before .before .before .before .before .args .path .now)) (c .before .before .remove .ensures))  -- returns
+    -- returns
+    (λ c.
+    let start = c .before .before .before .before .before .before .before .before .before .before in
+    own-removed (start .pre) (c .before .before .before .before .index .ensures) (stepsOf (start .args .path .now)) (c .before .before .remove .ensures))
     )
