@@ -1,4 +1,5 @@
 // The call runner: a script on standard input, and what its calls print on standard output.
+use libc::STDERR_FILENO;
 use libc::STDIN_FILENO;
 ghost use mathlib.Core.Path.{_≡_};
 ghost use Rattle.model.specs.Store.{emptyStore};
@@ -9,9 +10,14 @@ fn main() {
     start(&mut store);
 }
 
-// Carries out the script from the empty store.
+// Carries out the script from the empty store; where that is not done to the end, says so on standard error.
 fn start(store: &mut [u8])
     requires { ⌜ now store ≡ emptyStore ⌝ }
 {
-    console::run(STDIN_FILENO, store);
+    if !console::run(STDIN_FILENO, store) {
+        io::write_all(
+            STDERR_FILENO,
+            b"the script was not carried out to its end\n",
+        );
+    }
 }

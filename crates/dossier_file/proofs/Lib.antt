@@ -1,0 +1,3 @@
+-- Laws of this program.
+pub mod Naming
+pub mod Zeros

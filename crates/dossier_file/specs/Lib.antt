@@ -1,0 +1,2 @@
+-- Definitions that this program's contracts cite.
+pub mod Names
