@@ -1,26 +1,34 @@
 // The fields of a record's head: byte 0 what is to be done, 1 and 2 the lengths of the two texts, then from byte 4 on four words,
 // lowest byte first: a subject or an offset, a kind, the output's length and the store's.
-ghost use Prim.Native.Nat.{_≤_};
+ghost use mathlib.Core.Path.{_≡_};
+ghost use Prim.Native.Nat.{_+_, _*_, _≤_};
+ghost use lib.ListN.{getD};
 
 // The length of a text.
 pub fn length(x: u8) -> usize
-    ensures { λ r. ⌜ r ≤ 255 ⌝ }
+    ensures { λ r. ⌜ (r ≡ x) × (r ≤ 255) ⌝ }
 {
     octets::index(x)
 }
 
 // The word of four bytes, lowest first.
-fn word(a: u8, b: u8, c: u8, d: u8) -> u32 {
+fn word(a: u8, b: u8, c: u8, d: u8) -> u32
+    ensures { λ r. ⌜ r ≡ a + 256 * b + 65536 * c + 16777216 * d ⌝ }
+{
     octets::wide(a) + 256 * octets::wide(b) + 65536 * octets::wide(c) + 16777216 * octets::wide(d)
 }
 
 // The subject of a call.
-pub fn subject(head: &[u8; 20]) -> u32 {
+pub fn subject(head: &[u8; 20]) -> u32
+    ensures { λ r. ⌜ r ≡ getD (now (head .entry)) 4 0 + 256 * getD (now (head .entry)) 5 0 + 65536 * getD (now (head .entry)) 6 0 + 16777216 * getD (now (head .entry)) 7 0 ⌝ }
+{
     word(head[4], head[5], head[6], head[7])
 }
 
 // The kind of the value.
-pub fn kind(head: &[u8; 20]) -> u32 {
+pub fn kind(head: &[u8; 20]) -> u32
+    ensures { λ r. ⌜ r ≡ getD (now (head .entry)) 8 0 + 256 * getD (now (head .entry)) 9 0 + 65536 * getD (now (head .entry)) 10 0 + 16777216 * getD (now (head .entry)) 11 0 ⌝ }
+{
     word(head[8], head[9], head[10], head[11])
 }
 
