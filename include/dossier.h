@@ -33,7 +33,8 @@
  *     writes. So two calls on one store run at the same time only if both are views. The library has no lock of its own.
  *   - The functions are declared as below, with nothing narrower.
  *
- * A view takes about 6 KB of stack on x86-64, the other calls less than 1 KB. No call blocks.
+ * A view takes less than 6 KB of stack on x86-64 and the other calls less than 1 KB, as measured on a full store. No call
+ * blocks.
  */
 #ifndef DOSSIER_H
 #define DOSSIER_H
@@ -56,7 +57,7 @@ extern "C" {
 #define DOSSIER_PARTITION_BYTES 1284
 
 /* No listing has more bytes: at most 1,024 lines of live elements, 5,120 of removed ones and the first. An output of this
- * length is never refused by 10. */
+ * length is never refused by 10. The longest listing known has 114,861 bytes. */
 #define DOSSIER_LISTING_BYTES_MAX 119821
 
 /* The level of a label. */

@@ -15,9 +15,10 @@ const END: &str = "<!-- to here -->";
 const METHOD: &str = "In each round a batch of the product's calls and one of the Rust program's follow each other on the same buffers: 16
 stores in turn and one output. The buffers are warm, an untimed turn comes before each batch. After each call the
 subject's partition is laid back, a copy of 1,284 bytes that both times hold. The elements are spread evenly over the
-labels, a single one has the subject's; all of them are live. Insert, Update and Delete touch one element near the middle
-of its partition; an insert's elements count the one that it inserts. The well-formedness test is timed as a call that is
-refused right after it, for its path. The runner's time is a whole run of the program, from a file into a file.
+labels, a single one has the subject's; all of them are live. The view of a path, Insert, Update and Delete take one
+element near the middle of its partition, of the subject's label and with nothing of it below; an insert's elements count
+the one that it inserts. The well-formedness test is timed as a call that is refused right after it, for its path. The
+runner's time is a whole run of the program, from a file into a file.
 ";
 /// The head of the table of growth.
 const GROWTH: &str = "As the store grows: a view of all by 31, its cost for each line (each visible element), and the
@@ -57,7 +58,7 @@ impl Report {
     fn head(&self) -> String {
         let Report { date, seed, rounds, runs, floor, .. } = self;
         format!(
-            "Measured on {date}, with seed {seed}, on this machine: {}.\n\n\
+            "Measured on {date}, with seed {seed}, on this machine:\n{}.\n\n\
              Each time is the median of {rounds} rounds (the runner's: of {runs} runs).\n{METHOD}\n\
              To read each byte of the store once, eight at a time, takes {}. That is the floor of a call by 31, who\n\
              dominates every partition.\n",

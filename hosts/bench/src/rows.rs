@@ -87,8 +87,9 @@ pub fn calls(seed: u64, elements: usize, rounds: usize) -> Vec<Row> {
 type MakeCase = fn(&[u8], u8) -> (Call, Vec<u8>);
 
 /// The kinds of cases: their names, bars, numbers and how they are made.
-const KINDS: [(&str, f64, u32, MakeCase); 5] = [
+const KINDS: [(&str, f64, u32, MakeCase); 6] = [
     ("View of all", HIGH_BAR, 0, |store, subject| (call(Name::View, subject, Vec::new()), store.to_vec())),
+    ("View of a path", HIGH_BAR, 0, |store, subject| (call(Name::View, subject, leaf(store, subject)), store.to_vec())),
     ("Insert", BAR, 0, insert_case),
     ("Update", BAR, 0, |store, subject| (call(Name::Update, subject, leaf(store, subject)), store.to_vec())),
     ("Delete", BAR, 0, |store, subject| (call(Name::Delete, subject, leaf(store, subject)), store.to_vec())),

@@ -1,0 +1,166 @@
+/* Measures the stack that the calls take, on the longest listing known: each label has 32 elements, each of six steps, and those
+ * above it are removed wherever the label dominates another. The last line is 'N passed, N failed'. */
+#define _XOPEN_SOURCE 700
+#include "dossier.h"
+
+#include <pthread.h>
+#include <stdio.h>
+#include <stdlib.h>
+#include <string.h>
+
+/* The stack of a measured call, what it is filled with, and what the header says that a view and another call take. */
+enum { STACK = 65536, FILL = 0xa5, VIEW_MOST = 6 * 1024, OTHER_MOST = 1024 };
+
+/* The bytes of the longest listing known, and the elements of each label. */
+enum { LONGEST = 114861, EACH = 32, LABELS = 32, STEP = 3, ABOVE = 5 };
+
+static uint8_t store[DOSSIER_STORE_BYTES];
+static uint8_t output[DOSSIER_LISTING_BYTES_MAX];
+static _Alignas(4096) uint8_t stack[STACK];
+
+/* A path that is in the store, and what the last call answered. */
+static uint8_t path[STEP * (ABOVE + 1)];
+static struct dossier_answer answer;
+
+/* How many checks held and how many did not. */
+static int passed, failed;
+
+/* Counts one check, and names it if it does not hold. */
+static void check(const char *name, int holds)
+{
+    if (holds) {
+        passed++;
+    } else {
+        failed++;
+        printf("failed: %s\n", name);
+    }
+}
+
+/* Whether one label dominates another. */
+static int dominates(int one, int other)
+{
+    return other / 8 <= one / 8 && ((one % 8) & (other % 8)) == other % 8;
+}
+
+/* The highest label that a label dominates beside itself, or -1. */
+static int below(int label)
+{
+    for (int other = label - 1; other >= 0; other--) {
+        if (dominates(label, other)) {
+            return other;
+        }
+    }
+    return -1;
+}
+
+/* Puts a step into the path. */
+static void put_step(size_t at, int name, int label)
+{
+    path[STEP * at] = (uint8_t)(name % 256);
+    path[STEP * at + 1] = (uint8_t)(name / 256);
+    path[STEP * at + 2] = (uint8_t)label;
+}
+
+/* Inserts an element of the label with removed ones above it, where it dominates another label. */
+static int insert_below(int label, int name)
+{
+    static const uint8_t text[] = {'S', 'L', 'E', 'E', 'V', 'E', ' ', 'L', 'E', 'F', 'T', ' ', 'C', 'U', 'F', 'F'};
+    int other = below(label);
+    size_t above = other < 0 ? 0 : ABOVE;
+    int done = 1;
+    for (size_t at = 0; at < above; at++) {
+        put_step(at, name, other);
+        answer = dossier_insert(store, sizeof store, (uint32_t)other, path, STEP * (at + 1), DOSSIER_KIND_GROUP, text, 0);
+        done = done && answer.number == DOSSIER_DONE;
+    }
+    put_step(above, name, label);
+    answer = dossier_insert(store, sizeof store, (uint32_t)label, path, STEP * (above + 1), DOSSIER_KIND_TEXT, text, sizeof text);
+    done = done && answer.number == DOSSIER_DONE;
+    if (above > 0) {
+        answer = dossier_delete(store, sizeof store, (uint32_t)other, path, STEP);
+        done = done && answer.number == DOSSIER_DONE && answer.count == ABOVE;
+    }
+    return done;
+}
+
+/* Fills the store, from the highest label on, so that the lower ones still have room for what is removed again. */
+static int fill(void)
+{
+    int done = 1, name = 10000;
+    for (int label = LABELS - 1; label >= 0; label--) {
+        for (int at = 0; at < EACH; at++) {
+            done = insert_below(label, name++) && done;
+        }
+    }
+    return done;
+}
+
+/* The calls that are measured: none, for what a thread takes itself, a view of all, an update, a delete and an insert. */
+static void *no_call(void *unused)
+{
+    return unused;
+}
+
+static void *call_view(void *unused)
+{
+    answer = dossier_view(store, sizeof store, 31, path, 0, output, sizeof output);
+    return unused;
+}
+
+static void *call_update(void *unused)
+{
+    answer = dossier_update(store, sizeof store, 0, path, STEP, DOSSIER_KIND_GROUP, path, 0);
+    return unused;
+}
+
+static void *call_delete(void *unused)
+{
+    answer = dossier_delete(store, sizeof store, 0, path, STEP);
+    return unused;
+}
+
+static void *call_insert(void *unused)
+{
+    answer = dossier_insert(store, sizeof store, 0, path, STEP, DOSSIER_KIND_GROUP, path, 0);
+    return unused;
+}
+
+/* Runs a call on a filled stack of its own: how many bytes of the stack are no longer as they were. */
+static size_t used(void *(*call)(void *))
+{
+    pthread_attr_t attributes;
+    pthread_t thread;
+    memset(stack, FILL, sizeof stack);
+    if (pthread_attr_init(&attributes) != 0 || pthread_attr_setstack(&attributes, stack, sizeof stack) != 0
+        || pthread_create(&thread, &attributes, call, NULL) != 0 || pthread_join(thread, NULL) != 0) {
+        printf("a thread could not be run\n");
+        exit(1);
+    }
+    size_t at = 0;
+    while (at < sizeof stack && stack[at] == FILL) {
+        at++;
+    }
+    return sizeof stack - at;
+}
+
+/* A call is done, and takes no more than so many bytes beside what a thread takes. */
+static void measure(const char *name, void *(*call)(void *), size_t base, size_t most)
+{
+    size_t bytes = used(call) - base;
+    printf("%s: %zu bytes of stack\n", name, bytes);
+    check(name, answer.number == DOSSIER_DONE && bytes <= most);
+}
+
+int main(void)
+{
+    check("the store is filled", fill());
+    size_t base = used(no_call);
+    measure("view", call_view, base, VIEW_MOST);
+    check("the longest listing known", answer.count == LONGEST);
+    put_step(0, 10000 + EACH * LABELS - 1, 0);
+    measure("update", call_update, base, OTHER_MOST);
+    measure("delete", call_delete, base, OTHER_MOST);
+    measure("insert", call_insert, base, OTHER_MOST);
+    printf("%d passed, %d failed\n", passed, failed);
+    return failed == 0 ? 0 : 1;
+}
