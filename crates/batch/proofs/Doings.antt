@@ -1,17 +1,14 @@
 -- Calls carried out: the value that a line brings, and what a call answered, wrote and left.
 use mathlib.Core.Path.{_≡_, refl, sym, ap, subst, _∙_}
-use mathlib.Core.Bool.{Bool, true, false, cond}
 use mathlib.Core.Option.{Option, none, some}
 use mathlib.Core.List.{List, [], _∷_, _++_, append-assoc}
-use Prim.Native.Nat.{ℕ, suc, _+_, _-_, _≤_, _<_}
+use Prim.Native.Nat.{ℕ, _+_, _-_, _≤_, _<_}
 use native.Mathlib.Omega.{arith}
 use borrow.Rule.Slice.PartMut.{putMid}
 use lib.ListN.{length, take, drop, set, take-append-drop, length-drop}
 use lib.Seq.{lt-length-set, take-all, take-at, length-take-le, drop-append-le}
-use Rattle.model.specs.Lists.{keep}
 use Rattle.model.specs.Path.{Step, isPrefix, stepsOf}
 use Rattle.model.specs.Value.{Content}
-use Rattle.model.specs.Element.{Element}
 use Rattle.model.specs.Model.{openModel, ownSet}
 use Rattle.model.specs.Call.{Call, Op, subject, subjectOf, view, insert, update, delete, extending, table, refusal, refused, done, effect, outcome, outcomeBy}
 use Rattle.model.specs.Run.{answerOf, outputAfter}

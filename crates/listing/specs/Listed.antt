@@ -5,7 +5,6 @@ use Prim.Native.Nat.{ℕ, zero, suc}
 use lib.ListN.{length, getD, drop}
 use lib.Dec.{leb}
 use Rattle.model.specs.Path.{Step, parent}
-use Rattle.model.specs.Element.{Element}
 use Rattle.order.specs.Refs.{elementOf}
 
 -- the path before that of reference i; before the first it is the parent of the path listed

@@ -24,7 +24,7 @@ use Rattle.model.proofs.Lists.{length-range}
 use Rattle.partition.specs.Place.{Formed, placeOf}
 use Rattle.partition.proofs.Finding.{facts, elementAt, run-within, run-kept}
 use Rattle.partition.proofs.Layouts.{length-elements}
-use Rattle.path.proofs.Steps.{length-steps}
+use Rattle.path.proofs.Steps.{root-steps}
 use Rattle.store.specs.Opened.{Opened}
 use Rattle.store.proofs.Viewing.{opened-formed, opened-set}
 use Rattle.order.specs.Refs.{slotOf, elementOf, refers, Refers, seenAt}
@@ -62,13 +62,6 @@ pub part-size : {x : List ℕ} → Formed x → length x ≡ partitionSize
 part-size f = facts f .size
 
 -- the root stands before all elements, and all extend it
-root-steps : (p : List ℕ) → length p < 3 → stepsOf p ≡ []
-root-steps p h = none (stepsOf p) (length-steps p)
-  where
-    none : (q : List Step) → length q ≡ length p / 3 → q ≡ []
-    none [] e = refl
-    none (a ∷ q) e = absurd (omega arith)
-
 pub root-place : (x p : List ℕ) → length p < 3 → 0 ≡ placeOf (stepsOf p) (readPartition x)
 root-place x p h = go (readPartition x) ∙ ap (λ (q : List Step). placeOf q (readPartition x)) (sym (root-steps p h))
   where

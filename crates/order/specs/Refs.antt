@@ -1,10 +1,10 @@
 -- References to slots of a store, and the elements that a subject sees at or below a path, in path order.
 use mathlib.Core.Path.{_≡_}
-use mathlib.Core.Bool.{Bool, true, false, not, cond, _&&_}
+use mathlib.Core.Bool.{Bool, true, false, cond, _&&_}
 use mathlib.Core.List.{List, [], _∷_, map}
 use Prim.Native.Nat.{ℕ, _/_, _%_, _<_}
 use lib.ListN.{length, getD}
-use lib.Dec.{T, eqb, ltb}
+use lib.Dec.{T, ltb}
 use Rattle.model.specs.Lists.{all, keep, gather}
 use Rattle.model.specs.Sets.{sort}
 use Rattle.model.specs.Label.{labels, dominates}
@@ -53,10 +53,6 @@ orderedOf s b p ls = sort rank (gather (seenAt s b p) ls)
 -- those of all labels, in path order
 abbrev pub ordered : ℕ → List ℕ → List Step → List Element
 ordered s b p = orderedOf s b p labels
-
--- the subject dominates label n, and its partition has an element
-unfoldable pub occupies : ℕ → List ℕ → ℕ → Bool
-occupies s b n = dominates s n && not (eqb (count (partition n b)) 0)
 
 -- ---- two runs to be merged: each ascends, and no rank is in both
 pub record Runs (s : ℕ) (b : List ℕ) (xs ys : List ℕ) : Type 0 where

@@ -164,6 +164,6 @@ pub fn order(store: &[u8], subject: u8, path: &[u8], refs: &mut [u16], spare: &m
     ensures { λ r. ⌜ r ≤ 1024 ⌝ }
 {
     let mut labels = [0u8; 32];
-    let n = occupied::occupied(store, subject, &mut labels);
+    let n = occupied::occupied(store, subject, path, &mut labels);
     order_labels(store, subject, path, &labels[0..n], refs, spare)
 }

@@ -21,7 +21,7 @@ use Rattle.model.proofs.Slots.{valid-fits}
 use Rattle.model.proofs.Partitions.{WellFormed, well-formed}
 use Rattle.model.proofs.Walks.{rest, rest-more, rest-end, all-range}
 use Rattle.path.specs.Common.{common, isBefore, Compared}
-use Rattle.path.proofs.Steps.{length-steps}
+use Rattle.path.proofs.Steps.{length-steps, root-steps}
 use Rattle.path.proofs.Common.{common-first, common-prefix, common-same-path, common-turned}
 use Rattle.slot.specs.Slot.{Readable}
 use Rattle.slot.proofs.Reading.{length-path}
@@ -275,3 +275,17 @@ module _ (q : List ℕ) {b : List ℕ} {at c : ℕ} (inv : Running b (stepsOf q)
         let l : s < length q / 3 = omega arith in
         lt-leb (length q / 3) s l ∙ none-there (run-stop q inv h d m l)
   ]
+
+-- no element is below a path where there is none, and any is below the root
+module _ (q b : List ℕ) {c : ℕ} (e : (c ≡ count b) × (c < 256)) where
+  pub none-held : c ≡ 0 → false ≡ any (λ d. isPrefix (stepsOf q) (d .path)) (readPartition b)
+  none-held z =
+      let n : count b ≡ 0 = sym (e .0) ∙ z in
+      sym (ap (any (λ d. isPrefix (stepsOf q) (d .path))) (elements-range b ∙ ap (range (elementAt b) 0) n))
+
+  pub root-held : length q < 3 → (c ≡ 0 → ⊥) → true ≡ any (λ d. isPrefix (stepsOf q) (d .path)) (readPartition b)
+  root-held h z = go (count b) (e .0) (elements-range b)
+    where
+      go : (n : ℕ) → c ≡ n → readPartition b ≡ range (elementAt b) 0 n → true ≡ any (λ d. isPrefix (stepsOf q) (d .path)) (readPartition b)
+      go zero f g = absurd (z f)
+      go (suc n) f g = rw (g, root-steps q h)

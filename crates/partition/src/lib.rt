@@ -199,14 +199,21 @@ pub fn remove(part: &mut [u8], at: usize, path: &[u8]) -> usize
     k
 }
 
-// Whether an element has the path or extends it.
+// Whether an element has the path or extends it; every one extends the root.
 pub fn has_below(part: &[u8], path: &[u8]) -> bool
     requires { ⌜ Formed (now part) ⌝ }
     ensures { λ r. ⌜ r ≡ any (λ e. isPrefix (stepsOf (now (path .entry))) (e .path)) (readPartition (now (part .entry))) ⌝ }
 {
+    let c = count(part);
+    if c == 0 {
+        return false;
+    }
+    if path.len() < 3 {
+        return true;
+    }
     let f = find(part, path);
     let at = f.at;
-    if count(part) <= at {
+    if c <= at {
         return false;
     }
     let m = slot::compare_path(slot_at(part, at), path);

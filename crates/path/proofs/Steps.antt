@@ -47,6 +47,14 @@ lent-range b = steps-from b b 0 refl
 pub length-steps : (b : List ℕ) → length (stepsOf b) ≡ length b / 3
 length-steps b = ap length (lent-range b) ∙ length-range (lentStep b) 0 (length b / 3)
 
+-- less than three bytes are no step
+pub root-steps : (b : List ℕ) → length b < 3 → stepsOf b ≡ []
+root-steps b h = none (stepsOf b) (length-steps b)
+  where
+    none : (p : List Step) → length p ≡ length b / 3 → p ≡ []
+    none [] e = refl
+    none (a ∷ p) e = absurd (omega arith)
+
 -- ---- ascending labels, by the label before
 
 -- labels ascend behind a step: each may follow the one before

@@ -1,7 +1,7 @@
 -- A slot laid out: fields filled member by member, and bytes written field by field.
 use mathlib.Core.Path.{_≡_, refl, sym, ap, ap₂, _∙_}
 use mathlib.Core.List.{List, [], _∷_, _++_, map, map-append, append-nil, append-assoc}
-use Prim.Native.Nat.{ℕ, zero, suc, _+_, _-_, _*_, _/_, _%_, _≤_, _<_}
+use Prim.Native.Nat.{ℕ, suc, _+_, _-_, _*_, _/_, _%_, _≤_, _<_}
 use native.Mathlib.Omega.{arith}
 use lib.ListN.{length, take, drop, getD, set, replicate, replicate-append-replicate, length-append, length-set, length-replicate, length-map, drop-of-length-le, take-append-drop}
 use lib.Seq.{length-take-le, take-all, take-at, drop-at, drop-drop, drop-length, drop-cons, append-snoc, set-at}

@@ -1,5 +1,5 @@
 -- What a subject sees of a store, read partition by partition.
-use mathlib.Core.Path.{_≡_, refl, sym, ap, _∙_}
+use mathlib.Core.Path.{_≡_, refl, sym, ap, subst, _∙_}
 use mathlib.Core.Bool.{Bool, true, false, not, cond, _&&_, _||_, or-assoc}
 use mathlib.Core.List.{List, [], _∷_, _++_}
 use Prim.Native.Nat.{ℕ, _/_, _≤_, _<_}
@@ -16,10 +16,10 @@ use Rattle.model.specs.Store.{partition}
 use Rattle.model.specs.Model.{isHeld, openCell, openModel, ownSet}
 use Rattle.model.specs.View.{visible, reaches, inView}
 use Rattle.model.specs.Call.{someRaw}
-use Rattle.model.proofs.Bools.{cond-yes}
-use Rattle.model.proofs.Members.{not-any}
+use Rattle.model.proofs.Bools.{decide, cond-yes, is-true, is-false}
+use Rattle.model.proofs.Members.{not-any, in-any}
 use Rattle.model.proofs.Walks.{Left, in-range}
-use Rattle.path.proofs.Steps.{length-steps}
+use Rattle.path.proofs.Steps.{length-steps, root-steps}
 use Rattle.partition.specs.Place.{Formed}
 use Rattle.store.specs.Opened.{Opened, belowAt}
 use Rattle.store.proofs.Parts.{rawAt, held-formed, formed-set, dominated-lt, labels-start}
@@ -73,19 +73,29 @@ any-gather q f (n ∷ ns) = any-append q (f n) (gather f ns) ∙ ap (λ (t : Boo
 -- the empty path is in view
 pub view-root : (s : ℕ) (b p : List ℕ) → length p < 3 → true ≡ inView s (openModel b) (stepsOf p)
 unfolding inView
-view-root s b p h = go (stepsOf p) (length-steps p)
-  where
-    go : (q : List Step) → length q ≡ length p / 3 → true ≡ reaches (visible s (openModel b)) q
-    go [] e = refl
-    go (a ∷ q) e = absurd (omega arith)
+view-root s b p h = sym (ap (reaches (visible s (openModel b))) (root-steps p h))
 
-pub view-start : (s : ℕ) (b p : List ℕ) → 3 ≤ length p → {e : ℕ} → (e ≤ 32) × (s < 32 → s < e)
-    → Left (λ n. n) (any (belowAt s b (stepsOf p))) (inView s (openModel b) (stepsOf p)) e 0
-unfolding inView visible
-view-start s b p h {e} f = go (stepsOf p) (length-steps p)
-  where
-    go : (q : List Step) → length q ≡ length p / 3 → Left (λ n. n) (any (belowAt s b q)) (reaches (visible s (openModel b)) q) e 0
-    go [] l = absurd (omega arith)
-    go (a ∷ q) l =
-        rw (any-gather (λ d. isPrefix (a ∷ q) (d .path)) (λ n. cond (dominates s n) (ownSet n (openModel b)) []) labels)
-        (labels-start s (belowAt s b (a ∷ q)) f (λ n z. rw z))
+module _ (s : ℕ) (b p : List ℕ) (some : 3 ≤ length p) where
+  -- another is if some label has an element at or below it
+  view-any : inView s (openModel b) (stepsOf p) ≡ any (belowAt s b (stepsOf p)) labels
+  unfolding inView visible
+  view-any = go (stepsOf p) (length-steps p)
+    where
+      go : (q : List Step) → length q ≡ length p / 3 → reaches (visible s (openModel b)) q ≡ any (belowAt s b q) labels
+      go [] l = absurd (omega arith)
+      go (a ∷ q) l = any-gather (λ d. isPrefix (a ∷ q) (d .path)) (λ n. cond (dominates s n) (ownSet n (openModel b)) []) labels
+
+  pub view-at : (n : ℕ) {r : Bool} → r ≡ belowAt s b (stepsOf p) n → r ≡ true → true ≡ inView s (openModel b) (stepsOf p)
+  view-at n e t =
+      let q : belowAt s b (stepsOf p) n ≡ true = sym e ∙ t in
+      let d : T (dominates s n) = decide (dominates s n) (λ (u : T (dominates s n)). u) (λ (u : T (not (dominates s n))). absurd (not-held u q)) in
+      sym (view-any ∙ is-true (any (belowAt s b (stepsOf p)) labels) (in-any (belowAt s b (stepsOf p)) labels (in-range (λ k. k) 0 32 n (omega arith) (dominated-lt s n d)) (rw q tt)))
+    where
+      not-held : T (not (dominates s n)) → belowAt s b (stepsOf p) n ≡ true → ⊥
+      not-held u q =
+          let z : dominates s n ≡ false = is-false (dominates s n) u in
+          subst (λ (c : Bool). T (not c)) (sym (ap (λ (c : Bool). any (λ e. isPrefix (stepsOf p) (e .path)) (cond c (ownSet n (openModel b)) [])) z) ∙ q) tt
+
+  pub view-start : {e : ℕ} → (e ≤ 32) × (s < 32 → s < e)
+      → Left (λ n. n) (any (belowAt s b (stepsOf p))) (inView s (openModel b) (stepsOf p)) e 0
+  view-start f = rw view-any (labels-start s (belowAt s b (stepsOf p)) f (λ n z. rw z))

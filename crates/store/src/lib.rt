@@ -65,7 +65,7 @@ pub fn some_raw(store: &[u8], subject: u8) -> bool
 }
 
 // Whether the partition of a label holds an element that has the path or extends it, if the subject dominates the label.
-fn holds_below(store: &[u8], subject: u8, label: u8, path: &[u8]) -> bool
+pub fn holds_below(store: &[u8], subject: u8, label: u8, path: &[u8]) -> bool
     requires { ⌜ Opened (now store) subject ⌝ }
     ensures { λ r. ⌜ r ≡ belowAt subject (now (store .entry)) (stepsOf (now (path .entry))) label ⌝ }
 {
@@ -75,12 +75,16 @@ fn holds_below(store: &[u8], subject: u8, label: u8, path: &[u8]) -> bool
     partition::has_below(partition_of(store, subject, label), path)
 }
 
-// Whether a lent path is in the subject's view.
+// Whether a lent path is in the subject's view. The path's own element stands in the partition of its last label, which is asked first.
 pub fn in_view(store: &[u8], subject: u8, path: &[u8]) -> bool
     requires { ⌜ Opened (now store) subject ⌝ }
     ensures { λ r. ⌜ r ≡ inView subject (openModel (now (store .entry))) (stepsOf (now (path .entry))) ⌝ }
 {
     if path.len() < 3 {
+        return true;
+    }
+    let last = path[path.len() - 1];
+    if holds_below(store, subject, last, path) {
         return true;
     }
     let end = labels_end(subject);

@@ -19,8 +19,8 @@ order-spec =
     (λ c κs.
     let start = c .before .before .before .before .before .before .before .before .before .before .before in
     let found = c .before .before .before .before .before .occupied in
-    let few = found-few (start .pre .0) (found .last .1 .1 .0) (found .ensures .0) (found .ensures .1) in
-    ((start .pre .0, found-rising (start .pre .0) (found .last .1 .1 .0) (found .ensures .0) (found .ensures .1), few), (omega (arith, few, start .pre .1), omega (arith, few, start .pre .2))))
+    let few = found-few _ (start .args .store .now) (stepsOf (start .args .path .now)) (found .last .1 .1 .1 .0) (found .ensures .0) (found .ensures .1) in
+    ((start .pre .0, found-rising _ (start .args .store .now) (stepsOf (start .args .path .now)) (found .last .1 .1 .1 .0) (found .ensures .0) (found .ensures .1), few), (omega (arith, few, start .pre .1), omega (arith, few, start .pre .2))))
     (λ c. search needs)  -- same-length
     (λ c. search needs)  -- same-length-2
     -- returns
@@ -28,5 +28,5 @@ order-spec =
     let start = c .before .before .before .before .before .before .before .before .before .before .before .before .before .before .before .before in
     let found = c .before .before .before .before .before .before .before .before .before .before .occupied in
     let refs = c .before .before .before .before .order-labels .ensures in
-    (found-all (start .pre .0) (found .last .1 .1 .0) (found .ensures .0) (found .ensures .1) (stepsOf (start .args .path .now)) (refs .0), omega (arith, refs .1, found-few (start .pre .0) (found .last .1 .1 .0) (found .ensures .0) (found .ensures .1))))
+    (found-all _ (start .args .store .now) (stepsOf (start .args .path .now)) (found .last .1 .1 .1 .0) (found .ensures .0) (found .ensures .1) (refs .0), omega (arith, refs .1, found-few _ (start .args .store .now) (stepsOf (start .args .path .now)) (found .last .1 .1 .1 .0) (found .ensures .0) (found .ensures .1))))
     )

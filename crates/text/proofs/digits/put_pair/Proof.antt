@@ -1,8 +1,7 @@
 -- `text::digits::put_pair`: the tens, then the ones.
-use native.Mathlib.Omega.{arith}
 use borrow.Author.Needs.{needs}
 use mathlib.Core.Path.{ap₂}
-use mathlib.Core.List.{List, [], _∷_}
+use mathlib.Core.List.{[], _∷_}
 use Prim.Native.Nat.{ℕ}
 use Rattle.text.specs.Digits.{pair}
 use Rattle.text.proofs.Overlays.{then, wrote-as}
