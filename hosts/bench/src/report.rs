@@ -73,11 +73,12 @@ impl Report {
         let grown = self.growth.iter().flat_map(|growth| [growth.view, growth.test]);
         let mut text = format!(
             "The bar is 1.00 for View and the well-formedness test and 1.20 for the others. Above it are {} of the {} rows of the\n\
-             first table and {} of the {} ratios of the second. Of the first:\n\n",
+             first table and {} of the {} ratios of the second.{}\n",
             above.len(),
             self.rows().count(),
             grown.filter(|times| is_above(*times, HIGH_BAR)).count(),
             2 * self.growth.len(),
+            if above.is_empty() { "" } else { " Of the first:\n" },
         );
         for row in above {
             let _ = writeln!(
