@@ -1,6 +1,6 @@
 /* The labelled dossier store: its calls for C and C++.
  *
- * Link with target/staticlib/libdossier_c.a, which `rt staticlib dossier_c` builds. It needs memmove and memset of the C
+ * Link with target/staticlib/libdossier_c.a, which `tools/build --archive dossier_c` builds. It needs memmove and memset of the C
  * library and nothing else. It keeps nothing between calls, allocates nothing and starts no thread.
  *
  * THE STORE is 41,088 bytes that the caller owns and lends for one call at a time: 32 partitions of 1,284 bytes, one for each

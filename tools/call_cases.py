@@ -3,19 +3,20 @@
 
     python3 tools/call_cases.py                          the cases below, and the sequences that stdin has already
     python3 tools/call_cases.py DIR/calls-*.jsonl        the cases below, and the chosen sequences of these files
+    python3 tools/call_cases.py --check [FILES]          writes nothing, and fails where a file would be written otherwise
 
-It holds a reference implementation of document 01, written from the document alone, and cases with the number, the count and
-the listing that the document fixes, written by hand: each is held against the reference before anything is written. The
-sequences of a file bring their own answers and the SHA-256 of the store at their end, and the reference is held against these.
+What the calls must give comes from tools/reference.py, document 01 as a Python program. Each case also states the number, the
+count and the listing that the document fixes, by hand, and the reference is held to them. The sequences of a file bring their
+own answers, and the reference is held to these too; the SHA-256 of the store at the end of each stands below.
 
-A record of stdin is a head of 20 bytes and two texts. The head: byte 0 a letter, 1 and 2 the lengths of the texts, 3 zero, then
-four words, lowest byte first: a subject or an offset, a kind, the output's length, the store's length. The letters: V, I, U and
-D, the calls (texts: path and value); N, a name for what follows (text: the name); Z, every byte of the store becomes 0; X, bytes
-come onto the store (text: the bytes); S, the store is shown.
+A record of stdin is a head of four bytes, three words and two texts. The head: a letter, the lengths of the texts, zero. The
+words, lowest byte first: the store's length; a subject or a place; a kind or the output's length. The letters: V, I, U and D,
+the calls (texts: path and value); N, a name for what follows (text: a line); Z, every byte of the store becomes 0; X, bytes
+come onto the store from a place on (text: the bytes); S, the store is shown.
 
-stdout has for each call a line of its letter, number and count, and behind a view that is done its listing; for each name a
-line; for S a line for each partition that is not empty: its number and its bytes, in hexadecimal digits, up to the last that is
-not 0.
+stdout has for each call a line of its letter, number and count, and behind a view what it wrote, up to the last byte of the
+output that is not as it was; for each name a line; for S a line for each partition that is not empty: its number and its
+bytes, in hexadecimal digits, up to the last that is not 0.
 """
 import base64
 import hashlib
@@ -24,198 +25,25 @@ import os
 import struct
 import sys
 
-# ---------------------------------------------------------------------------------------------------------------------
-# The reference: document 01.
-
-STORE = 41088
-PARTITION = 1284
-SLOT = 40
-BUFFER = 33 * PARTITION  # what the program keeps: a store, and some bytes behind it
-
-
-def dominates(l, m):
-    """Whether label l dominates label m."""
-    return l // 8 >= m // 8 and (l % 8) & (m % 8) == m % 8
-
-
-def good_steps(steps):
-    """Whether the steps, if any, are those of an element's path."""
-    if len(steps) > 6:
-        return False
-    if not all(1 <= name <= 65535 and label <= 31 for name, label in steps):
-        return False
-    return all(dominates(after[1], before[1]) for before, after in zip(steps, steps[1:]))
-
-
-def good_value(kind, value):
-    """Whether a value has one of the three forms."""
-    if kind == 0:
-        return len(value) == 0
-    if kind == 1:
-        return len(value) == 4
-    return kind == 2 and 1 <= len(value) <= 16 and all(32 <= b <= 126 for b in value)
-
-
-def read_path(raw):
-    """The steps of a path given as three bytes a step, or None."""
-    if len(raw) % 3 != 0:
-        return None
-    steps = tuple((raw[i] + 256 * raw[i + 1], raw[i + 2]) for i in range(0, len(raw), 3))
-    return steps if good_steps(steps) else None
-
-
-def slot_bytes(steps, kind, value):
-    """An element as 40 bytes."""
-    b = bytearray(SLOT)
-    b[0] = len(steps)
-    for i, (name, label) in enumerate(steps):
-        b[1 + 2 * i : 3 + 2 * i] = struct.pack("<H", name)
-        b[13 + i] = label
-    b[19] = kind
-    b[20] = len(value)
-    b[21 : 21 + len(value)] = value
-    return bytes(b)
-
-
-def read_slot(b):
-    """The element of 40 bytes, or None: its steps, its kind and its value."""
-    if not 1 <= b[0] <= 6 or b[20] > 16:
-        return None
-    steps = tuple((b[1 + 2 * i] + 256 * b[2 + 2 * i], b[13 + i]) for i in range(b[0]))
-    kind, value = b[19], bytes(b[21 : 21 + b[20]])
-    if not good_steps(steps) or not good_value(kind, value):
-        return None
-    return (steps, kind, value) if slot_bytes(steps, kind, value) == bytes(b) else None
-
-
-def read_partition(label, b):
-    """The set of a well-formed partition, each path with its kind and value; None if it is not well formed."""
-    count = b[0]
-    if count > 32 or any(b[1:4]) or any(b[4 + SLOT * count :]):
-        return None
-    elements = [read_slot(b[4 + SLOT * i : 44 + SLOT * i]) for i in range(count)]
-    if None in elements:
-        return None
-    paths = [e[0] for e in elements]
-    if any(p[-1][1] != label for p in paths) or any(p >= q for p, q in zip(paths, paths[1:])):
-        return None
-    for p in paths:
-        if any(p[n - 1][1] == label and p[:n] not in paths for n in range(1, len(p))):
-            return None
-    return {p: (kind, value) for p, kind, value in elements}
-
-
-def partition_bytes(elements):
-    """A set laid out in 1,284 bytes."""
-    slots = b"".join(slot_bytes(p, *elements[p]) for p in sorted(elements))
-    return (bytes([len(elements), 0, 0, 0]) + slots).ljust(PARTITION, b"\0")
-
-
-class Model:
-    """The reference model: the store's length, and for each label a set, or the bytes of a partition that is not well formed."""
-
-    def __init__(self, store):
-        self.store = bytes(store)
-        self.parts = []
-        if len(store) == STORE:
-            for n in range(32):
-                raw = self.store[PARTITION * n : PARTITION * (n + 1)]
-                read = read_partition(n, raw)
-                self.parts.append(raw if read is None else read)
-
-    def bytes(self):
-        """The store."""
-        if not self.parts:
-            return self.store
-        return b"".join(p if isinstance(p, bytes) else partition_bytes(p) for p in self.parts)
-
-    def in_view(self, subject):
-        """The paths in the subject's view, without the root."""
-        live = [p for n in range(32) if dominates(subject, n) for p in self.parts[n]]
-        return {p[:n] for p in live for n in range(1, len(p) + 1)}
-
-    def is_live(self, path):
-        """Whether the element is in the set of its label."""
-        return path in self.parts[path[-1][1]]
-
-    def listing(self, subject, path):
-        """The printed view."""
-        listed = sorted(p for p in self.in_view(subject) if p[: len(path)] == path)
-        text = b"VIEW\t%d\t%d\n" % (subject, len(listed))
-        for p in listed:
-            name, label = p[-1]
-            text += b"%d\t%d\t%d\t" % (len(p), name, label)
-            if not self.is_live(p):
-                text += b"R\t-\t-\n"
-                continue
-            kind, value = self.parts[label][p]
-            shown = [b"G\t-", b"M\t%d", b"T\t"][kind]
-            if kind == 1:
-                shown = shown % struct.unpack("<i", value)
-            text += b"P\t" + shown + (value if kind == 2 else b"") + b"\n"
-        return text
-
-    def refusal(self, op, subject, raw, kind, value):
-        """The number of the first of the causes 1 to 9 that applies, else 0; and the path."""
-        if len(self.store) != STORE:
-            return 1, None
-        if subject > 31:
-            return 2, None
-        if any(isinstance(self.parts[n], bytes) for n in range(32) if dominates(subject, n)):
-            return 3, None
-        path = read_path(raw)
-        if path is None or (path == () and op != "V"):
-            return 4, None
-        if op in "IU" and not good_value(kind, value):
-            return 5, path
-        if op in "IUD" and path[-1][1] != subject:
-            return 6, path
-        if op == "V" and path != () and path not in self.in_view(subject):
-            return 7, path
-        if op == "I" and path[:-1] != () and path[:-1] not in self.in_view(subject):
-            return 7, path
-        if op in "UD" and not self.is_live(path):
-            return 7, path
-        if op == "I" and self.is_live(path):
-            return 8, path
-        if op == "I" and len(self.parts[subject]) == 32:
-            return 9, path
-        return 0, path
-
-    def call(self, op, subject, raw, kind=0, value=b"", room=0):
-        """A call: its number, its count and what it writes."""
-        number, path = self.refusal(op, subject, raw, kind, value)
-        if number != 0:
-            return number, 0, b""
-        if op == "V":
-            text = self.listing(subject, path)
-            return (10, 0, b"") if room < len(text) else (0, len(text), text)
-        own = self.parts[subject]
-        went = 0
-        if op in "UD":
-            gone = [p for p in own if p[: len(path)] == path]
-            went = len(gone)
-            for p in gone:
-                del own[p]
-        if op in "IU":
-            own[path] = (kind, bytes(value))
-        return 0, went, b""
-
+from reference import PARTITION, STORE, Model, slot_bytes
 
 # ---------------------------------------------------------------------------------------------------------------------
 # Records, carried out as the program does.
 
+BUFFER = 33 * PARTITION  # what the program keeps: a store, and some bytes behind it
+
 records = []
 output = []
+answered = {letter: set() for letter in "VIUD"}
 buffer = bytearray(BUFFER)
 
 
-def record(letter, first=b"", second=b"", subject=0, kind=0, room=0, size=0):
+def record(letter, first=b"", second=b"", subject=0, third=0, size=BUFFER):
     """Keeps a record and carries it out: what the call answers and writes, if it is a call."""
-    head = bytes([ord(letter), len(first), len(second), 0]) + struct.pack("<IIII", subject, kind, room, size)
+    head = bytes([ord(letter), len(first), len(second), 0]) + struct.pack("<III", size, subject, third)
     records.append(head + first + second)
     if letter == "N":
-        output.append(first + b"\n")
+        output.append(first)
     elif letter == "Z":
         buffer[:] = bytes(BUFFER)
     elif letter == "X":
@@ -223,11 +51,17 @@ def record(letter, first=b"", second=b"", subject=0, kind=0, room=0, size=0):
     elif letter == "S":
         show_store()
     else:
-        model = Model(buffer[:size])
-        number, count, text = model.call(letter, subject, first, kind, second, room)
-        buffer[:size] = model.bytes()
-        output.append(b"%s %d %d\n" % (letter.encode(), number, count) + text)
-        return number, count, text
+        return call(letter, first, second, subject, third, size)
+
+
+def call(letter, path, value, subject, third, size):
+    """Carries out a call on the first bytes of the buffer; the third word is a view's output length, else a kind."""
+    model = Model(buffer[:size])
+    number, count, text = model.call(letter, subject, path, third, value, third)
+    buffer[:size] = model.bytes()
+    output.append(b"%s %d %d\n" % (letter.encode(), number, count) + text)
+    answered[letter].add(number)
+    return number, count, text
 
 
 def show_store():
@@ -238,24 +72,10 @@ def show_store():
             output.append(b"S %d %s\n" % (n, used.hex().encode()))
 
 
-def read_records(stdin):
-    """Carries out records that stand in a file, from the first sequence on."""
-    at = 0
-    kept = False
-    while at < len(stdin):
-        m, n = stdin[at + 1], stdin[at + 2]
-        subject, kind, room, size = struct.unpack("<IIII", stdin[at + 4 : at + 20])
-        first, second = stdin[at + 20 : at + 20 + m], stdin[at + 20 + m : at + 20 + m + n]
-        letter = chr(stdin[at])
-        kept = kept or (letter == "N" and first.startswith(b"sequence "))
-        if kept:
-            record(letter, first, second, subject, kind, room, size)
-        at += 20 + m + n
-
-
 # ---------------------------------------------------------------------------------------------------------------------
 # How a case is written: what it calls, then the number and the count that document 01 fixes.
 
+CASES = []
 G = (0, b"")
 
 
@@ -269,17 +89,36 @@ def T(text):
     return 2, text.encode("latin-1")
 
 
+def steps(text):
+    """The steps of a path written name:label and parted by /, a lone / being the empty path."""
+    return [] if text == "/" else [tuple(map(int, step.split(":"))) for step in text.split("/")]
+
+
 def path(text):
-    """A path, from bytes or from name:label steps parted by /, a lone / being the empty path."""
+    """A path as three bytes a step; bytes stay as they are."""
     if isinstance(text, bytes):
         return text
-    steps = [] if text == "/" else [step.split(":") for step in text.split("/")]
-    return b"".join(struct.pack("<HB", int(name), int(label)) for name, label in steps)
+    return b"".join(struct.pack("<HB", name, label) for name, label in steps(text))
 
 
 def case(name):
-    """A case begins on an empty store."""
-    record("N", name.encode())
+    """A case: it has a name, and begins on an empty store."""
+
+    def keep(body):
+        CASES.append((name, body))
+        return body
+
+    return keep
+
+
+def then(name):
+    """A name for what follows on the same store."""
+    record("N", name.encode() + b"\n")
+
+
+def begin(name):
+    """The name of a case or a sequence, and an empty store."""
+    then(name)
     record("Z")
 
 
@@ -290,28 +129,28 @@ def hold(given, fixed):
 
 def insert(subject, where, value, number, size=STORE):
     """An insert; its count is 0."""
-    hold(record("I", path(where), value[1], subject, value[0], 0, size), (number, 0, b""))
+    hold(record("I", path(where), value[1], subject, value[0], size), (number, 0, b""))
 
 
 def update(subject, where, value, number, count=0, size=STORE):
     """An update."""
-    hold(record("U", path(where), value[1], subject, value[0], 0, size), (number, count, b""))
+    hold(record("U", path(where), value[1], subject, value[0], size), (number, count, b""))
 
 
 def delete(subject, where, number, count=0, size=STORE):
     """A delete."""
-    hold(record("D", path(where), b"", subject, 0, 0, size), (number, count, b""))
+    hold(record("D", path(where), b"", subject, 0, size), (number, count, b""))
 
 
 def view(subject, where, room, number, count=0, lines=(), size=STORE):
     """A view, and its listing with an arrow for each tab."""
     text = "".join(line.replace("→", "\t") + "\n" for line in lines)
-    hold(record("V", path(where), b"", subject, 0, room, size), (number, count, text.encode("latin-1")))
+    hold(record("V", path(where), b"", subject, room, size), (number, count, text.encode("latin-1")))
 
 
 def view_lines(subject, where, lines):
     """A view of which only the first line is written in the case: how many lines follow it."""
-    number, count, text = record("V", path(where), b"", subject, 0, 4000, STORE)
+    number, count, text = record("V", path(where), b"", subject, 4000, STORE)
     hold((number, text.split(b"\n")[0], text.count(b"\n")), (0, b"VIEW\t%d\t%d" % (subject, lines), lines + 1))
 
 
@@ -320,6 +159,12 @@ def corrupt(offset, raw):
     for i in range(0, len(raw), 255):
         if any(raw[i : i + 255]) or any(buffer[offset + i : offset + i + 255]):
             record("X", raw[i : i + 255], subject=offset + i)
+
+
+def put(label, *elements):
+    """A partition's bytes that come onto the store: its count, and a slot for each path and value, as they are given."""
+    slots = b"".join(slot_bytes(steps(where), *value) for where, value in elements)
+    corrupt(PARTITION * label, (bytes([len(elements), 0, 0, 0]) + slots).ljust(PARTITION, b"\0"))
 
 
 def show():
@@ -336,38 +181,41 @@ def every_call(number, subject, where, value=G, size=STORE):
 
 
 # ---------------------------------------------------------------------------------------------------------------------
-# The cases.
+# Listings: document 01's example and what follows on it; the order of what is listed; which labels a subject sees.
 
 
-def listings():
-    """Document 01's example and what follows on it."""
-    case("the example")
+@case("the example")
+def example():
     insert(0, "10:0", G, 0)
     insert(16, "10:0/20:16", M(-150), 0)
     delete(0, "10:0", 0, 1)
     view(0, "/", 9, 0, 9, ["VIEW→0→0"])
     example = ["VIEW→16→2", "1→10→0→R→-→-", "2→20→16→P→M→-150"]
     view(16, "/", 16384, 0, 40, example)
-    record("N", b"its last listing in 40 bytes, in 39 and in none")
+    then("its last listing in 40 bytes, in 39 and in none")
     view(16, "/", 40, 0, 40, example)
     view(16, "/", 39, 10)
     view(16, "/", 0, 10)
     view(0, "/", 8, 10)
-    record("N", b"the removed element inserted again")
+    then("the removed element inserted again")
     insert(0, "10:0", T("SLEEVE"), 0)
     insert(0, "10:0", T("SLEEVE"), 8)
     view(16, "/", 100, 0, 45, ["VIEW→16→2", "1→10→0→P→T→SLEEVE", "2→20→16→P→M→-150"])
     view(0, "/", 100, 0, 27, ["VIEW→0→1", "1→10→0→P→T→SLEEVE"])
     show()
 
-    case("an empty listing")
+
+@case("an empty listing")
+def empty_listing():
     view(31, "/", 10, 0, 10, ["VIEW→31→0"])
     view(31, "/", 9, 10)
     view(31, "/", 0, 10)
     view(7, "/", 9, 0, 9, ["VIEW→7→0"])
     show()
 
-    case("views below the root")
+
+@case("views below the root")
+def below_the_root():
     insert(0, "10:0", G, 0)
     insert(0, "10:0/20:0", T("BACK"), 0)
     insert(0, "10:0/20:0/30:0", M(7), 0)
@@ -383,7 +231,9 @@ def listings():
     view(16, "10:16", 100, 7)
     view(16, "11:0", 100, 0, 23, ["VIEW→16→1", "1→11→0→P→G→-"])
 
-    case("names 255, 256 and 257 in path order")
+
+@case("names 255, 256 and 257 in path order")
+def names_in_order():
     insert(0, "257:0", G, 0)
     insert(0, "255:0", G, 0)
     insert(0, "65535:0", G, 0)
@@ -394,7 +244,9 @@ def listings():
     view(0, "/", 91, 0, 91, lines)
     show()
 
-    case("versions of one name, by label number")
+
+@case("versions of one name, by label number")
+def versions():
     insert(0, "10:0", T("a"), 0)
     insert(16, "10:16", T("b"), 0)
     insert(9, "10:9", T("c"), 0)
@@ -406,9 +258,8 @@ def listings():
     view(9, "/", 100, 0, 48, ["VIEW→9→3", "1→10→0→P→T→a", "1→10→9→P→T→c", "2→10→9→P→T→e"])
 
 
-def dominance():
-    """Which labels a subject sees."""
-    case("an element of each label, seen by each subject")
+@case("an element of each label, seen by each subject")
+def each_label():
     for label in range(32):
         insert(label, "%d:%d" % (100 + label, label), G, 0)
     # how many labels one level's label dominates, by compartments
@@ -421,10 +272,13 @@ def dominance():
     view(16, "108:8", 100, 0, 24, ["VIEW→16→1", "1→108→8→P→G→-"])
 
 
-def paths():
-    """Paths by their length, names and labels."""
+# ---------------------------------------------------------------------------------------------------------------------
+# Paths by their length, names and labels.
+
+
+@case("six steps and seven")
+def six_and_seven():
     six = "1:0/2:0/3:0/4:0/5:0/6:0"
-    case("six steps and seven")
     for n in range(1, 7):
         insert(0, "/".join(six.split("/")[:n]), G, 0)
     every_call(4, 0, six + "/7:0")
@@ -438,7 +292,9 @@ def paths():
     delete(0, "1:0", 0, 3)
     show()
 
-    case("paths of 1, 2, 4, 18, 19, 20, 21, 24, 189 and 255 bytes")
+
+@case("paths of 1, 2, 4, 18, 19, 20, 21, 24, 189 and 255 bytes")
+def path_lengths():
     steps = path("10:0") * 85
     insert(0, "10:0", G, 0)
     for n in (1, 2, 4, 19, 20, 21, 24, 189, 255):
@@ -447,12 +303,12 @@ def paths():
     update(0, steps[:18], G, 7)
     delete(0, steps[:18], 7)
     view(0, steps[:18], 100, 7)
-    record("N", b"no step")
+    then("no step")
     insert(0, "/", G, 4)
     update(0, "/", G, 4)
     delete(0, "/", 4)
     view(0, "/", 22, 0, 22, ["VIEW→0→1", "1→10→0→P→G→-"])
-    record("N", b"name 0, first and last; labels 32 and 255; labels not ascending")
+    then("name 0, first and last; labels 32 and 255; labels not ascending")
     every_call(4, 0, "0:0")
     every_call(4, 0, "10:0/0:0")
     every_call(4, 31, "10:32")
@@ -463,9 +319,21 @@ def paths():
     show()
 
 
-def values():
-    """Kinds and values."""
-    case("texts of 0, 1, 16 and 17 bytes")
+@case("labels 9 and 16 in one path")
+def nine_and_sixteen():
+    insert(9, "10:9", G, 0)
+    every_call(4, 16, "10:9/20:16")
+    every_call(4, 25, "10:9/20:16")
+    insert(25, "10:9/20:25", G, 0)
+    show()
+
+
+# ---------------------------------------------------------------------------------------------------------------------
+# Kinds and values.
+
+
+@case("texts of 0, 1, 16 and 17 bytes")
+def texts():
     insert(0, "1:0", T(""), 5)
     insert(0, "1:0", T("x"), 0)
     insert(0, "2:0", T("0123456789abcdef"), 0)
@@ -475,7 +343,7 @@ def values():
     update(0, "1:0", T("0123456789abcdefg"), 5)
     update(0, "1:0", T("y"), 0, 1)
     view(0, "/", 100, 0, 48, ["VIEW→0→2", "1→1→0→P→T→y", "1→2→0→P→T→0123456789abcdef"])
-    record("N", b"text bytes 31, 32, 126, 127 and 255")
+    then("text bytes 31, 32, 126, 127 and 255")
     insert(0, "4:0", T("ab\x1f"), 5)
     insert(0, "4:0", T("\x7fab"), 5)
     insert(0, "4:0", T("a\xffb"), 5)
@@ -484,7 +352,9 @@ def values():
     view(0, "4:0", 100, 0, 22, ["VIEW→0→1", "1→4→0→P→T→ ~"])
     show()
 
-    case("measures")
+
+@case("measures")
+def measures():
     for name, n in enumerate([-2147483648, 2147483647, 0, -1, -10, 99], 1):
         insert(0, "%d:0" % name, M(n), 0)
     lines = ["VIEW→0→6", "1→1→0→P→M→-2147483648", "1→2→0→P→M→2147483647", "1→3→0→P→M→0", "1→4→0→P→M→-1", "1→5→0→P→M→-10"]
@@ -493,7 +363,9 @@ def values():
     view(0, "1:0", 30, 10)
     show()
 
-    case("measures of 0, 3 and 5 bytes, a group of 1 byte, kinds 3, 256, 257, 258 and 4294967295")
+
+@case("measures of 0, 3 and 5 bytes, a group of 1 byte, kinds 3, 256, 257, 258 and 4294967295")
+def no_values():
     insert(0, "9:0", G, 0)
     bad = [(1, b""), (1, b"abc"), (1, b"abcde"), (0, b"a"), (3, b""), (3, b"a"), (3, b"abcd")]
     bad += [(256, b""), (257, b"abcd"), (258, b"a"), (4294967295, b""), (4294967295, b"abcd")]
@@ -503,21 +375,24 @@ def values():
     show()
 
 
+# ---------------------------------------------------------------------------------------------------------------------
+# A partition with 32 elements.
+
+
+@case("the 32nd insert of a label, the 33rd, another label's")
 def full():
-    """A partition with 32 elements."""
-    case("the 32nd insert of a label, the 33rd, another label's")
     for n in range(1, 33):
         insert(0, "%d:0" % n, G, 0)
     insert(0, "33:0", G, 9)
     insert(0, "1:0/1:0", G, 9)
     insert(0, "0:0", G, 4)
-    record("N", b"full and live, full and the parent not in view")
+    then("full and live, full and the parent not in view")
     insert(0, "32:0", G, 8)
     insert(0, "33:0/1:0", G, 7)
     insert(16, "33:0/1:16", G, 7)
     insert(16, "33:16", G, 0)
     insert(16, "32:0/33:16", G, 0)
-    record("N", b"an update of one of 32, then a delete and the insert again")
+    then("an update of one of 32, then a delete and the insert again")
     update(0, "17:0", T("new"), 0, 1)
     insert(0, "33:0", G, 9)
     delete(0, "16:0", 0, 1)
@@ -525,7 +400,9 @@ def full():
     insert(0, "34:0", G, 9)
     show()
 
-    case("removed elements are not counted")
+
+@case("removed elements are not counted")
+def removed_not_counted():
     for n in range(1, 33):
         insert(0, "%d:0" % n, G, 0)
         insert(16, "%d:0/1:16" % n, G, 0)
@@ -543,9 +420,12 @@ def full():
     view_lines(0, "/", 32)
 
 
-def views():
-    """Live, removed and gone."""
-    case("an insert of a lower label where a higher version exists")
+# ---------------------------------------------------------------------------------------------------------------------
+# Live, removed and gone.
+
+
+@case("an insert of a lower label where a higher version exists")
+def higher_version():
     insert(16, "10:16", T("high"), 0)
     insert(0, "10:0", T("low"), 0)
     insert(24, "10:0/20:24", G, 0)
@@ -557,7 +437,9 @@ def views():
     insert(16, "10:16/20:16", G, 0)
     insert(24, "10:24/20:24", G, 7)
 
-    case("an update of an element whose parent is removed")
+
+@case("an update of an element whose parent is removed")
+def parent_removed():
     insert(0, "10:0", G, 0)
     insert(16, "10:0/20:16", M(1), 0)
     delete(0, "10:0", 0, 1)
@@ -567,7 +449,7 @@ def views():
     insert(0, "10:0/22:0", G, 7)
     update(0, "10:0", G, 7)
     delete(0, "10:0", 7)
-    record("N", b"the mark vanishes with the last live element below it")
+    then("the mark vanishes with the last live element below it")
     delete(16, "10:0/21:16", 0, 1)
     view(16, "10:0", 100, 0, 37, ["VIEW→16→2", "1→10→0→R→-→-", "2→20→16→P→M→2"])
     delete(16, "10:0/20:16", 0, 1)
@@ -576,7 +458,9 @@ def views():
     insert(16, "10:0/20:16", M(1), 7)
     show()
 
-    case("deletes and updates take what is below of the same label")
+
+@case("deletes and updates take what is below of the same label")
+def below_of_one_label():
     insert(0, "10:0", G, 0)
     insert(0, "10:0/20:0", G, 0)
     insert(0, "10:0/20:0/30:0", G, 0)
@@ -599,28 +483,69 @@ def views():
     show()
 
 
-def refusals():
-    """The table: each number on each call that can give it, and which comes first."""
-    case("1: stores of 0, 1, 41087 and 41089 bytes")
+@case("a delete, the same again, and what is left")
+def delete_again():
+    put(0, ("10:0", G), ("10:0/20:0", G), ("11:0", G))
+    view(0, "10:0", 100, 0, 35, ["VIEW→0→2", "1→10→0→P→G→-", "2→20→0→P→G→-"])
+    delete(0, "10:0", 0, 2)
+    view(0, "/", 100, 0, 22, ["VIEW→0→1", "1→11→0→P→G→-"])
+    view(0, "10:0", 100, 7)
+    delete(0, "10:0", 7)
+    insert(0, "11:0", G, 8)
+    show()
+
+
+@case("names 254 to 258 among 255, 256 and 257")
+def names_sought():
+    put(0, ("255:0", G), ("256:0", G), ("257:0", G))
+    for name, number in ((254, 7), (255, 0), (256, 0), (257, 0), (258, 7)):
+        update(0, "%d:0" % name, M(name), number, 1 if number == 0 else 0)
+    show()
+    for name, number in ((254, 0), (255, 8), (256, 8), (257, 8), (258, 0)):
+        insert(0, "%d:0" % name, G, number)
+    show()
+
+
+@case("10:0/20:16 alone, seen by 0, 9, 16 and 31")
+def alone():
+    put(16, ("10:0/20:16", G))
+    view(0, "/", 100, 0, 9, ["VIEW→0→0"])
+    view(0, "10:0", 100, 7)
+    view(9, "10:0", 100, 7)
+    view(16, "10:0", 100, 0, 37, ["VIEW→16→2", "1→10→0→R→-→-", "2→20→16→P→G→-"])
+    view(31, "10:0", 100, 0, 37, ["VIEW→31→2", "1→10→0→R→-→-", "2→20→16→P→G→-"])
+    view(31, "11:0", 100, 7)
+
+
+# ---------------------------------------------------------------------------------------------------------------------
+# The table: each number on each call that can give it, and which comes first.
+
+
+@case("1: stores of 0, 1, 41087 and 41089 bytes")
+def refusal_1():
     for size in (0, 1, 41087, 41089):
         every_call(1, 0, "10:0", G, size)
-    record("N", b"1 before 2 and before all others")
+    then("1 before 2 and before all others")
     every_call(1, 40, "10:0", G, 0)
     every_call(1, 4294967295, b"\1", (9, b""), 41089)
     corrupt(0, b"\41")
     every_call(1, 0, "10:0", G, 41087)
     show()
 
-    case("2: subjects 32, 40, 256, 287 and 4294967295")
+
+@case("2: subjects 32, 40, 256, 287 and 4294967295")
+def refusal_2():
     for subject in (32, 40, 256, 287, 4294967295):
         every_call(2, subject, "10:31")
-    record("N", b"2 before 3 and 4")
+    then("2 before 3 and 4")
     corrupt(0, b"\41")
     every_call(2, 32, "10:0")
     every_call(2, 256, b"\1", (9, b""))
     show()
 
-    case("3: a corrupted partition above, beside, of the subject and below")
+
+@case("3: a corrupted partition above, beside, of the subject and below")
+def refusal_3():
     insert(0, "10:0", G, 0)
     insert(9, "10:9", G, 0)
     insert(16, "10:16", G, 0)
@@ -637,27 +562,30 @@ def refusals():
     view(9, "/", 100, 0, 35, ["VIEW→9→2", "1→10→0→P→G→-", "1→10→9→P→M→1"])
     delete(9, "10:9", 0, 1)
     show()
-    record("N", b"mended; then the partition below both")
+    then("mended; then the partition below both")
     corrupt(PARTITION * 16 + 2, b"\0")
     view(16, "/", 100, 0, 37, ["VIEW→16→2", "1→10→0→P→G→-", "1→10→16→P→G→-"])
     corrupt(1283, b"\1")
     every_call(3, 16, "10:16")
     every_call(3, 9, "10:9")
     every_call(3, 0, "10:0")
-    record("N", b"3 before 4, 5, 6, 7 and 10")
+    then("3 before 4, 5, 6, 7 and 10")
     every_call(3, 0, b"\1\2", (9, b""))
     every_call(3, 16, "12:0/13:0")
     view(0, "/", 0, 3)
     show()
-    corruptions()
 
-    case("4 before 5, 6, 7 and 10")
+
+@case("4 before 5, 6, 7 and 10")
+def refusal_4():
     every_call(4, 0, b"\1\0", (3, b""))
     every_call(4, 0, "0:16", (1, b""))
     view(0, "0:0", 0, 4)
     view(0, b"\1", 0, 4)
 
-    case("5 before 6, 7, 8 and 9")
+
+@case("5 before 6, 7, 8 and 9")
+def refusal_5():
     insert(0, "10:0", G, 0)
     for value in ((3, b""), (1, b"abc"), (2, b"")):
         insert(16, "10:0", value, 5)
@@ -670,20 +598,24 @@ def refusals():
     insert(0, "50:0", T(""), 5)
     insert(0, "50:0", T("x"), 9)
 
-    case("6: the last label is another, above, below and beside")
+
+@case("6: the last label is another, above, below and beside")
+def refusal_6():
     insert(0, "10:0", G, 0)
     insert(16, "10:0/20:16", G, 0)
     for subject, where in ((16, "10:0"), (0, "10:0/20:16"), (9, "10:0/20:16"), (31, "10:0/20:16"), (17, "10:0/20:16")):
         insert(subject, where, G, 6)
         update(subject, where, G, 6)
         delete(subject, where, 6)
-    record("N", b"6 before 7 and 8")
+    then("6 before 7 and 8")
     insert(16, "12:0/13:0", G, 6)
     update(16, "12:0/13:0", G, 6)
     delete(16, "12:0/13:0", 6)
     show()
 
-    case("7: not in view, the parent not in view, not live")
+
+@case("7: not in view, the parent not in view, not live")
+def refusal_7():
     every_call(7, 0, "10:0/20:0")
     view(0, "10:0", 100, 7)
     update(0, "10:0", G, 7)
@@ -697,7 +629,7 @@ def refusals():
     insert(9, "10:9/20:9", G, 7)
     view(0, "10:16", 100, 7)
     view(9, "10:16", 100, 7)
-    record("N", b"7 before 10; 8; 10")
+    then("7 before 10; 8; 10")
     view(0, "10:16", 0, 7)
     view(16, "10:16/21:16", 0, 7)
     view(16, "10:16", 0, 10)
@@ -708,9 +640,12 @@ def refusals():
     show()
 
 
-def corruptions():
-    """Partition 16 with one byte changed, which subject 16 is told and subject 0 is not."""
-    case("3: a partition of 10:16 and 10:16/20:16 with one byte changed")
+# ---------------------------------------------------------------------------------------------------------------------
+# Partitions put onto the store byte by byte: which are well formed.
+
+
+@case("3: a partition of 10:16 and 10:16/20:16 with one byte changed")
+def one_byte_changed():
     insert(16, "10:16", G, 0)
     insert(16, "10:16/20:16", T("ab"), 0)
     base = PARTITION * 16
@@ -732,7 +667,7 @@ def corruptions():
         view(0, "/", 100, 0, 9, ["VIEW→0→0"])
         corrupt(base + at, was)
     view(16, "/", 100, 0, 39, ["VIEW→16→2", "1→10→16→P→G→-", "2→20→16→P→T→ab"])
-    record("N", b"one byte changed, and well formed")
+    then("one byte changed, and well formed")
     corrupt(base + two + 3, b"\25")
     corrupt(base + two + 21, b"A")
     view(16, "/", 100, 0, 39, ["VIEW→16→2", "1→10→16→P→G→-", "2→21→16→P→T→Ab"])
@@ -743,63 +678,213 @@ def corruptions():
     show()
 
 
+@case("partition 16 corrupted, for 0, 9, 16, 31 and 40")
+def partition_16():
+    corrupt(PARTITION * 16, b"\41")
+    view(0, "/", 100, 0, 9, ["VIEW→0→0"])
+    view(9, "/", 100, 0, 9, ["VIEW→9→0"])
+    view(16, "/", 100, 3)
+    view(31, "/", 100, 3)
+    view(40, "/", 100, 2)
+
+
+@case("an empty partition with one byte changed")
+def empty_changed():
+    for at, b in ((0, 1), (0, 33), (1, 1), (3, 1), (4, 1), (1283, 1)):
+        corrupt(at, bytes([b]))
+        view(0, "/", 100, 3)
+        corrupt(at, b"\0")
+    view(0, "/", 100, 0, 9, ["VIEW→0→0"])
+
+
+@case("slots of six steps, by kind and value")
+def six_steps():
+    five = "1:0/2:0/3:1/4:1/5:5"
+    six = five + "/6:5"
+    lines = ["VIEW→5→2", "5→5→5→P→G→-"]
+    put(5, (five, G), (six, G))
+    view(5, five, 100, 0, 33, lines + ["6→6→5→P→G→-"])
+    put(5, (five, G), (six, M(-2147483648)))
+    view(5, five, 100, 0, 43, lines + ["6→6→5→P→M→-2147483648"])
+    put(5, (five, G), (six, T("SLEEVE LEFT HAND")))
+    view(5, five, 100, 0, 48, lines + ["6→6→5→P→T→SLEEVE LEFT HAND"])
+    put(5, (five, G), (six, T("")))
+    view(5, five, 100, 3)
+    put(5, (five, G), (six, (3, b"A")))
+    view(5, five, 100, 3)
+
+
+@case("a slot of label 3 in partitions 3 and 7")
+def label_3():
+    put(3, ("10:3", T("A")))
+    view(3, "/", 100, 0, 22, ["VIEW→3→1", "1→10→3→P→T→A"])
+    view(7, "/", 100, 0, 22, ["VIEW→7→1", "1→10→3→P→T→A"])
+    put(3)
+    put(7, ("10:3", T("A")))
+    view(3, "/", 100, 0, 9, ["VIEW→3→0"])
+    view(7, "/", 100, 3)
+
+
+@case("slots of names 255 and 256, in each order, and of 255 twice")
+def slot_order():
+    put(0, ("255:0", G), ("256:0", G))
+    view(0, "/", 100, 0, 37, ["VIEW→0→2", "1→255→0→P→G→-", "1→256→0→P→G→-"])
+    put(0, ("256:0", G), ("255:0", G))
+    view(0, "/", 100, 3)
+    put(0, ("255:0", G), ("255:0", G))
+    view(0, "/", 100, 3)
+
+
+@case("slots with their parents and without")
+def slot_parents():
+    put(0, ("10:0/20:0", G))
+    view(0, "/", 100, 3)
+    put(0, ("9:0", G), ("10:0/20:0", G))
+    view(0, "/", 100, 3)
+    put(0, ("10:0", G), ("10:0/20:0", G))
+    view(0, "/", 100, 0, 35, ["VIEW→0→2", "1→10→0→P→G→-", "2→20→0→P→G→-"])
+    put(0)
+    put(16, ("10:0/20:16", G))
+    view(16, "/", 100, 0, 37, ["VIEW→16→2", "1→10→0→R→-→-", "2→20→16→P→G→-"])
+
+
+@case("32 slots, with the counts 31, 32 and 33")
+def counts():
+    put(0, *[("%d:0" % n, G) for n in range(1, 33)])
+    view_lines(0, "/", 32)
+    corrupt(0, b"\37")
+    view(0, "/", 1000, 3)
+    corrupt(0, b"\41")
+    view(0, "/", 1000, 3)
+    corrupt(0, b"\40")
+    view_lines(0, "/", 32)
+
+
 # ---------------------------------------------------------------------------------------------------------------------
-# Sequences of files, chosen by their seeds: between them they give every number but 1.
+# Sequences of files, chosen by their seeds: between them they give every number but 1. With each, the SHA-256 of its last store.
 
-CHOSEN = [2, 4, 7, 13, 14, 16, 17, 19, 20]
+CHOSEN = {
+    2: "9f497380710d4c12511be5625ef57716af53a0f0abf01cd06e30161ec2c223e4",
+    4: "2302a893e21f076f50abd462a770ff26bddd0c64c2682551e8781022b7cdf349",
+    7: "79858ec1f9d6444674f0cff639b8cd1981d45ea76a3e3b22245e622fc020b06e",
+    13: "ddcf9336406082fc0029a62ef7f7416845bb3ed251d12ebedf2b8101e49d8299",
+    14: "c85f8c89f48063b00c14a2c1f34eed78476758a133875bffbfd50f552aceb92d",
+    16: "c37d233190dd0afc3d61ccdc5ef82296e58f6da6a05155363865c9a4be91527c",
+    17: "27dc56f1b389e30f99ce94b90395593614b3cb582472c7249e99cfce09f9c1eb",
+    19: "20f461c0a8d63da936e94800bd4bf62af5b98bd2ff8f75f80703e39c2360c1a0",
+    20: "1d76601c6dcd4ae2bd0ab2f70e0be375f7d87b74c7a1b11e55bc0c6c6faf4094",
+}
+NAME = b"sequence "
 
 
-def sequences(name):
-    """The chosen sequences of a file that no file before it had."""
-    lines = []
-    with open(name, encoding="ascii") as f:
-        for text in f:
-            line = json.loads(text)
-            lines = [line] if "stage" in line else lines + [line]
-            if "end" in line and lines[0]["seed"] in CHOSEN:
-                CHOSEN.remove(lines[0]["seed"])
-                sequence(lines)
+def from_files(names):
+    """The chosen sequences of the files; of two with one seed the first."""
+    found = {}
+    for name in names:
+        with open(name, encoding="ascii") as f:
+            for lines in parted(map(json.loads, f)):
+                found.setdefault(lines[0]["seed"], lines)
+    for seed in CHOSEN:
+        sequence(seed, found[seed])
 
 
-def sequence(lines):
+def parted(lines):
+    """The sequences of a file, each a list that ends with its end."""
+    held = []
+    for line in lines:
+        held.append(line)
+        if "end" in line:
+            yield held
+            held = []
+
+
+def sequence(seed, lines):
     """One sequence: its store, its events, the store at its end."""
     store = base64.b64decode(lines[0]["store"])
-    case("sequence %d" % lines[0]["seed"])
+    hold(len(store), STORE)
+    begin("sequence %d" % seed)
     corrupt(0, store)
-    letters = {"view": "V", "insert": "I", "update": "U", "delete": "D"}
     for line in lines[1:-1]:
-        if "damage" in line:
-            corrupt(line["damage"], bytes.fromhex(line["bytes"]))
-            continue
-        where, value = bytes.fromhex(line["path"]), bytes.fromhex(line.get("value", ""))
-        room, kind = line.get("outlen", 0), line.get("kind", 0)
-        given = record(letters[line["call"]], where, value, line["subject"], kind, room, len(store))
-        hold(given, (line["number"], line["count"], bytes.fromhex(line["written"])))
-    hold(hashlib.sha256(buffer[: len(store)]).hexdigest(), lines[-1]["end"])
+        event(line)
+    hold(lines[-1]["end"], CHOSEN[seed])
+    end(seed)
+
+
+def event(line):
+    """One event of a sequence: bytes that come onto the store, or a call and what it must give."""
+    if "damage" in line:
+        corrupt(line["damage"], bytes.fromhex(line["bytes"]))
+        return
+    letter = {"view": "V", "insert": "I", "update": "U", "delete": "D"}[line["call"]]
+    where, value = bytes.fromhex(line["path"]), bytes.fromhex(line.get("value", ""))
+    third = line.get("outlen", 0) if letter == "V" else line.get("kind", 0)
+    given = record(letter, where, value, line["subject"], third, STORE)
+    hold(given, (line["number"], line["count"], bytes.fromhex(line["written"])))
+
+
+def end(seed):
+    """The end of a sequence: its store is the one that its file gives, and is shown."""
+    hold(hashlib.sha256(buffer[:STORE]).hexdigest(), CHOSEN[seed])
     show()
 
 
-def main():
-    """Writes both files."""
+def from_records(stdin):
+    """The sequences that stand in stdin, record by record from the first one on."""
+    at = stdin.index(NAME) - 16
+    while at < len(stdin):
+        letter, m, n = chr(stdin[at]), stdin[at + 1], stdin[at + 2]
+        size, subject, third = struct.unpack("<III", stdin[at + 4 : at + 16])
+        first, second = stdin[at + 16 : at + 16 + m], stdin[at + 16 + m : at + 16 + m + n]
+        if letter == "N":
+            seed = int(first[len(NAME) :])
+        if letter == "S":
+            end(seed)
+        else:
+            record(letter, first, second, subject, third, size)
+        at += 16 + m + n
+
+
+# ---------------------------------------------------------------------------------------------------------------------
+# The two files.
+
+
+def read(name):
+    """A file's bytes."""
+    with open(name, "rb") as f:
+        return f.read()
+
+
+def write(name, raw):
+    """Writes a file."""
+    with open(name, "wb") as f:
+        f.write(raw)
+
+
+# the numbers that each call can answer: all of them are among the cases
+NUMBERS = {"V": {0, 1, 2, 3, 4, 7, 10}, "I": set(range(10)), "U": set(range(8)), "D": {0, 1, 2, 3, 4, 6, 7}}
+
+
+def main(words):
+    """Makes both files, then writes them, or with --check says which differ."""
     crate = os.path.join(os.path.dirname(os.path.abspath(__file__)), "..", "crates", "call_cases")
-    listings()
-    dominance()
-    paths()
-    values()
-    full()
-    views()
-    refusals()
-    for name in sys.argv[1:]:
-        sequences(name)
-    if len(sys.argv) > 1:
-        assert CHOSEN == [], CHOSEN
+    names = [os.path.join(crate, "stdin"), os.path.join(crate, "stdout")]
+    for name, body in CASES:
+        begin(name)
+        body()
+    files = [word for word in words if word != "--check"]
+    if files:
+        from_files(files)
     else:
-        with open(os.path.join(crate, "stdin"), "rb") as f:
-            read_records(f.read())
-    with open(os.path.join(crate, "stdin"), "wb") as f:
-        f.write(b"".join(records))
-    with open(os.path.join(crate, "stdout"), "wb") as f:
-        f.write(b"".join(output))
+        from_records(read(names[0]))
+    assert answered == NUMBERS, answered
+    made = [b"".join(records), b"".join(output)]
+    if "--check" not in words:
+        for name, raw in zip(names, made):
+            write(name, raw)
+        return
+    differ = [os.path.basename(name) for name, raw in zip(names, made) if read(name) != raw]
+    if differ:
+        sys.exit("made otherwise than they stand in crates/call_cases: " + ", ".join(differ))
 
 
-main()
+main(sys.argv[1:])

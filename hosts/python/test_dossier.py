@@ -2,8 +2,13 @@
 
     python3 hosts/python/test_dossier.py
 """
+import copy
 import doctest
+import multiprocessing
+import pickle
 import unittest
+from decimal import Decimal
+from fractions import Fraction
 
 import dossier
 from dossier import raw
@@ -24,6 +29,9 @@ LISTING = b"VIEW\t16\t2\n1\t10\t0\tR\t-\t-\n2\t20\t16\tP\tM\t-150\n"
 
 # What a call that brings a value is given beside the path: a group.
 GROUP = (0, b"")
+
+# What is no whole number, though some of it equals one or could be cut to one.
+NOT_WHOLE = [7.5, 1.0, float("nan"), Decimal(1), Fraction(1), 1j, "1", b"1", None]
 
 
 def label(number):
@@ -48,6 +56,27 @@ def example(buffer=None):
 def output(length=64):
     """An output full of FILL."""
     return bytearray([FILL]) * length
+
+
+def delete_absent(name):
+    """A delete that is refused by 7, for another process."""
+    return Store().delete(label(0), path((name, 0)))
+
+
+def unexpected(number):
+    """An answer that no call gives, for another process."""
+    return Answer(number, 1).outcome()
+
+
+class Index:
+    """A whole number that is no int."""
+
+    def __init__(self, number):
+        self.number = number
+
+    def __index__(self):
+        """The number."""
+        return self.number
 
 
 class CallTest(unittest.TestCase):
@@ -275,6 +304,92 @@ class Wrapper(CallTest):
         for line in lines + ["1\t10\t0\tP\tG\t-\t7", "1\t10\t0\tQ\tG\t-"]:
             self.assertRaises(Unreadable, list, View(f"VIEW\t0\t1\n{line}\n".encode()))
         self.assertRaises(Unreadable, list, View(b"VIEW\t0\t1\n1\t10\t0\tP\tG\t-"))
+
+
+class WholeNumbers(CallTest):
+    """What is no whole number raises TypeError, with the store untouched; nothing is narrowed."""
+
+    def test_labels(self):
+        for number in NOT_WHOLE:
+            self.assertRaises(TypeError, Label, number)
+            self.assertRaises(TypeError, Label, 0, number)
+            self.assertRaises(TypeError, Label, Level.HOUSE, number)
+            self.assertRaises(TypeError, Label.from_number, number)
+
+    def test_measures(self):
+        for number in NOT_WHOLE:
+            self.assertRaises(TypeError, Measure, number)
+
+    def test_names(self):
+        store = Store()
+        for number in NOT_WHOLE:
+            steps = path((number, 0))
+            self.assertRaises(TypeError, store.view, label(0), steps)
+            self.assertRaises(TypeError, store.insert, label(0), steps, Group())
+            self.assertRaises(TypeError, store.update, label(0), steps, Group())
+            self.assertRaises(TypeError, store.delete, label(0), steps)
+        self.assertEqual(store.buffer, Store().buffer)
+
+    def test_subjects_and_kinds(self):
+        store = Store().buffer
+        for number in NOT_WHOLE:
+            self.assertRaises(TypeError, raw.view, store, number, P10, output())
+            self.assertRaises(TypeError, raw.insert, store, number, P10, *GROUP)
+            self.assertRaises(TypeError, raw.insert, store, 0, P10, number, b"")
+            self.assertRaises(TypeError, raw.update, store, number, P10, *GROUP)
+            self.assertRaises(TypeError, raw.update, store, 0, P10, number, b"")
+            self.assertRaises(TypeError, raw.delete, store, number, P10)
+        self.assertEqual(store, Store().buffer)
+
+    def test_lengths(self):
+        for number in 7.5, 1.0, 64:
+            self.assertRaises(TypeError, Store(number).view, label(0))
+            self.assertRaises(TypeError, Store().view, label(0), (), number)
+
+    def test_what_is_a_whole_number(self):
+        self.assertEqual(Label(Index(2), Index(3)), label(19))
+        self.assertEqual(repr(Label(2, 3)), repr(label(19)))
+        self.assertEqual(Label.from_number(Index(19)), label(19))
+        self.assertEqual(Measure(Index(-150)), Measure(-150))
+        store = Store()
+        store.insert(Label(Index(0)), [Step(Index(10), Label(0))], Measure(Index(-150)))
+        self.assertEqual(store.view(label(0)).listing, b"VIEW\t0\t1\n1\t10\t0\tP\tM\t-150\n")
+        self.assertEqual(raw.delete(store.buffer, Index(0), P10), Answer(0, 1))
+
+
+class Carried(CallTest):
+    """What the module hands out, pickled, copied and brought from another process."""
+
+    def assert_carried(self, error):
+        """An error is the same one, pickled or copied: its type, answer and text."""
+        for carried in pickle.loads(pickle.dumps(error)), copy.copy(error), copy.deepcopy(error):
+            self.assertIs(type(carried), type(error))
+            self.assertEqual(vars(carried), vars(error))
+            self.assertEqual(str(carried), str(error))
+
+    def test_errors(self):
+        for refusal in Refusal:
+            self.assert_carried(Refused(Answer(int(refusal), 0)))
+        self.assert_carried(UnexpectedAnswer(Answer(7, 1)))
+        self.assert_carried(Unreadable(b"1\t10"))
+
+    def test_what_an_error_says(self):
+        self.assertEqual(str(Refused(Answer(7, 0))), "refused by 7: ABSENT")
+        self.assertEqual(str(UnexpectedAnswer(Answer(11, 2))), "unexpected answer: number 11, count 2")
+
+    def test_values(self):
+        lines = list(example().view(label(16)))
+        for value in Answer(7, 0), label(19), Step(10, label(16)), Group(), Measure(-150), Text("SLEEVE"), lines:
+            self.assertEqual(pickle.loads(pickle.dumps(value)), value)
+        self.assertEqual(pickle.loads(pickle.dumps(example())).buffer, example().buffer)
+        self.assertEqual(pickle.loads(pickle.dumps(example().view(label(16)))).listing, LISTING)
+
+    def test_errors_of_another_process(self):
+        for error, call, argument in (Refused, delete_absent, 10), (UnexpectedAnswer, unexpected, 7):
+            with multiprocessing.Pool(1) as pool:
+                with self.assertRaises(error) as raised:
+                    pool.map_async(call, [argument]).get(timeout=30)
+            self.assertEqual(raised.exception.answer.number, 7)
 
 
 def load_tests(loader, tests, pattern):

@@ -23,7 +23,7 @@ fn main() -> ExitCode {
     let archive = folder.join("libdossier_c.a");
     println!("cargo:rerun-if-changed={}", archive.display());
     if !archive.is_file() {
-        eprintln!("{} is missing: run `rt staticlib dossier_c` at the project's root,", archive.display());
+        eprintln!("{} is missing: run `tools/build --archive dossier_c` at the project's root,", archive.display());
         eprintln!("or set {VARIABLE} to the folder that holds libdossier_c.a.");
         return ExitCode::FAILURE;
     }

@@ -7,9 +7,9 @@ use lib.ListN.{length, take}
 use lib.Seq.{length-take-le}
 use Rattle.model.specs.Store.{emptyStore}
 use Rattle.model.specs.Script.{linesOf}
-use Rattle.batch.specs.Lines.{Printed, Carried}
+use Rattle.carry.specs.Lines.{Printed, Carried}
 use Rattle.batch.specs.Pieces.{ended, begun, last, kept, TakenIn, Underway, Piece, Fed, usedBytes, wroteBytes, PiecesAsLines, CutsAgree, PiecesPrint}
-use Rattle.batch.proofs.Carrying.{printed-none, printed-append, printed-alike, printed-one, carried-one}
+use Rattle.carry.proofs.Carrying.{printed-none, printed-append, printed-alike, printed-one, carried-one}
 use Rattle.batch.proofs.Cuts.{lines-ended, ended-append, begun-append, span-some}
 use Rattle.batch.proofs.Keeping.{kept-kept, begun-alike, ended-alike, last-alike}
 

@@ -12,9 +12,9 @@ use lib.Dec.{T, eqb, leb}
 use mir.Facts.{leb-yes, leb-no}
 use Rattle.model.specs.Script.{ScriptCall, Reads, Reading, Readings}
 use Rattle.model.proofs.Bools.{decide, is-true, is-false}
-use Rattle.batch.specs.Lines.{Carried}
+use Rattle.carry.specs.Lines.{Carried}
 use Rattle.batch.specs.Pieces.{ended, begun, last, endAt, keptSize, kept, Kept, TakenIn}
-use Rattle.batch.proofs.Carrying.{carried-none, carried-alike}
+use Rattle.carry.proofs.Carrying.{carried-none, carried-alike}
 use Rattle.batch.proofs.Cuts.{end-within, endless, ending}
 
 -- ---- what is kept

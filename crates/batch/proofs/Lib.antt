@@ -1,7 +1,4 @@
--- Laws of lines carried out and of inputs taken in by pieces.
-pub mod Doings
-pub mod Answering
-pub mod Carrying
+-- Laws of inputs taken in by pieces.
 pub mod Cuts
 pub mod Keeping
 pub mod Feeding

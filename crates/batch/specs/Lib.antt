@@ -1,4 +1,2 @@
 -- What the contracts of this crate cite beside the model.
-pub mod Done
-pub mod Lines
 pub mod Pieces

@@ -8,7 +8,7 @@ use lib.Dec.{eqb}
 use Rattle.model.specs.Lists.{all}
 use Rattle.model.specs.Store.{emptyStore}
 use Rattle.model.specs.Script.{linesOf, Prints}
-use Rattle.batch.specs.Lines.{Printed, Carried}
+use Rattle.carry.specs.Lines.{Printed, Carried}
 
 -- the lines that end in a piece, the bytes p being those before it of the line begun
 abbrev pub ended : List ℕ → List ℕ → List (List ℕ)

@@ -1,13 +1,9 @@
-// Script lines carried out on a store, and an input taken in by pieces.
-mod calls;
-mod lines;
-
-pub use lines::carry_out;
+// An input taken in by pieces, its lines carried out on a store.
 ghost use mathlib.Core.Path.{_≡_};
 ghost use mathlib.Core.List.{[], _∷_, _++_};
 ghost use Prim.Native.Nat.{_+_, _≤_};
 ghost use lib.ListN.{length, take, drop};
-ghost use Rattle.batch.specs.Lines.{Carried};
+ghost use Rattle.carry.specs.Lines.{Carried};
 ghost use Rattle.batch.specs.Pieces.{last, endAt, lacksEnd, NotBefore, keptSize, Kept, TakenIn};
 
 // What taking in a piece did: the bytes of input that were used, the bytes of output written, and those kept of the line begun.
@@ -98,10 +94,10 @@ fn end_line(
     ensures { λ r. ⌜ Carried ((take n (now (line .entry)) ++ now (more .entry)) ∷ []) (now (store .entry)) (now (out .entry)) r (now (store .exit)) (now (out .exit)) ⌝ }
 {
     if n == 0 {
-        return lines::carry_out(store, more, path, out);
+        return carry::carry_out(store, more, path, out);
     }
     let m = keep(line, n, more);
-    lines::carry_out(store, &line[0..m], path, out)
+    carry::carry_out(store, &line[0..m], path, out)
 }
 
 // Takes in the input up to its first line end: where there is one, the line is carried out; else what there is, is kept.
@@ -144,5 +140,5 @@ pub fn finish(store: &mut [u8], line: &[u8], path: &mut [u8], out: &mut [u8]) ->
     if line.len() == 0 {
         return 0;
     }
-    lines::carry_out(store, line, path, out)
+    carry::carry_out(store, line, path, out)
 }

@@ -1,5 +1,5 @@
-// The fields of a record's head: byte 0 what is to be done, 1 and 2 the lengths of the two texts, then from byte 4 on four words,
-// lowest byte first: a subject or an offset, a kind, the output's length and the store's.
+// The fields of a record's head: byte 0 what is to be done, 1 and 2 the lengths of the two texts, then from byte 4 on three words,
+// lowest byte first: the store's length; a subject or a place; a kind or the output's length.
 ghost use mathlib.Core.Path.{_≡_};
 ghost use Prim.Native.Nat.{_+_, _*_, _≤_};
 ghost use lib.ListN.{getD};
@@ -19,17 +19,17 @@ fn word(a: u8, b: u8, c: u8, d: u8) -> u32
 }
 
 // The subject of a call.
-pub fn subject(head: &[u8; 20]) -> u32
-    ensures { λ r. ⌜ r ≡ getD (now (head .entry)) 4 0 + 256 * getD (now (head .entry)) 5 0 + 65536 * getD (now (head .entry)) 6 0 + 16777216 * getD (now (head .entry)) 7 0 ⌝ }
-{
-    word(head[4], head[5], head[6], head[7])
-}
-
-// The kind of the value.
-pub fn kind(head: &[u8; 20]) -> u32
+pub fn subject(head: &[u8; 16]) -> u32
     ensures { λ r. ⌜ r ≡ getD (now (head .entry)) 8 0 + 256 * getD (now (head .entry)) 9 0 + 65536 * getD (now (head .entry)) 10 0 + 16777216 * getD (now (head .entry)) 11 0 ⌝ }
 {
     word(head[8], head[9], head[10], head[11])
+}
+
+// The kind of the value.
+pub fn kind(head: &[u8; 16]) -> u32
+    ensures { λ r. ⌜ r ≡ getD (now (head .entry)) 12 0 + 256 * getD (now (head .entry)) 13 0 + 65536 * getD (now (head .entry)) 14 0 + 16777216 * getD (now (head .entry)) 15 0 ⌝ }
+{
+    word(head[12], head[13], head[14], head[15])
 }
 
 // The smaller of a word and a bound.
@@ -43,23 +43,23 @@ fn at_most(x: u32, most: usize) -> usize
     n
 }
 
-// Where bytes come onto the store, at most a bound.
-pub fn offset(head: &[u8; 20], most: usize) -> usize
+// The place from which on bytes come onto the store, at most a bound.
+pub fn offset(head: &[u8; 16], most: usize) -> usize
     ensures { λ r. ⌜ r ≤ most ⌝ }
 {
     at_most(subject(head), most)
 }
 
 // The length of the output, at most a bound.
-pub fn output_length(head: &[u8; 20], most: usize) -> usize
+pub fn output_length(head: &[u8; 16], most: usize) -> usize
     ensures { λ r. ⌜ r ≤ most ⌝ }
 {
-    at_most(word(head[12], head[13], head[14], head[15]), most)
+    at_most(kind(head), most)
 }
 
 // The length of the store, at most a bound.
-pub fn store_length(head: &[u8; 20], most: usize) -> usize
+pub fn store_length(head: &[u8; 16], most: usize) -> usize
     ensures { λ r. ⌜ r ≤ most ⌝ }
 {
-    at_most(word(head[16], head[17], head[18], head[19]), most)
+    at_most(word(head[4], head[5], head[6], head[7]), most)
 }

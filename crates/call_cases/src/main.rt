@@ -23,8 +23,8 @@ fn main() {
 
 // Reads a record and carries it out: whether there was one.
 fn turn(store: &mut [u8; 42372], output: &mut [u8; 65536]) -> bool {
-    let mut head = [0u8; 20];
-    if io::read_full(STDIN_FILENO, &mut head) < 20 {
+    let mut head = [0u8; 16];
+    if io::read_full(STDIN_FILENO, &mut head) < 16 {
         return false;
     }
     let mut first = [0u8; 255];
@@ -37,7 +37,7 @@ fn turn(store: &mut [u8; 42372], output: &mut [u8; 65536]) -> bool {
 fn texts(
     store: &mut [u8; 42372],
     output: &mut [u8; 65536],
-    head: &[u8; 20],
+    head: &[u8; 16],
     first: &mut [u8],
     second: &mut [u8],
 )

@@ -4,12 +4,12 @@ use crate::show;
 use libc::STDOUT_FILENO;
 ghost use Prim.Native.Nat.{_≤_};
 
-// One record, by its first byte: the calls have the letters of the runner, N names the case, Z clears the store, X corrupts it,
+// One record, by its first byte: the calls have the letters of the runner, N names the case by a line, Z clears the store, X corrupts it,
 // S shows it.
 pub fn record(
     store: &mut [u8; 42372],
     output: &mut [u8; 65536],
-    head: &[u8; 20],
+    head: &[u8; 16],
     first: &[u8],
     second: &[u8],
 ) {
@@ -21,12 +21,12 @@ pub fn record(
         b'X' => corrupt(store, head, first),
         b'Z' => fill(store, 0),
         b'S' => show::store(store),
-        _ => show::line(first),
+        _ => show::text(first),
     }
 }
 
 // Bytes that come onto the store, as many as it has room for from the offset on.
-fn corrupt(store: &mut [u8], head: &[u8; 20], from: &[u8]) {
+fn corrupt(store: &mut [u8], head: &[u8; 16], from: &[u8]) {
     let at = fields::offset(head, store.len());
     let n = least(from.len(), store.len() - at);
     let end = at + n;
@@ -34,7 +34,7 @@ fn corrupt(store: &mut [u8], head: &[u8; 20], from: &[u8]) {
 }
 
 // An insert, on as many bytes of the store as the head says.
-fn insert(store: &mut [u8], head: &[u8; 20], path: &[u8], value: &[u8]) {
+fn insert(store: &mut [u8], head: &[u8; 16], path: &[u8], value: &[u8]) {
     let size = fields::store_length(head, store.len());
     let done = dossier::insert(
         &mut store[0..size],
@@ -47,7 +47,7 @@ fn insert(store: &mut [u8], head: &[u8; 20], path: &[u8], value: &[u8]) {
 }
 
 // An update.
-fn update(store: &mut [u8], head: &[u8; 20], path: &[u8], value: &[u8]) {
+fn update(store: &mut [u8], head: &[u8; 16], path: &[u8], value: &[u8]) {
     let size = fields::store_length(head, store.len());
     let done = dossier::update(
         &mut store[0..size],
@@ -60,14 +60,14 @@ fn update(store: &mut [u8], head: &[u8; 20], path: &[u8], value: &[u8]) {
 }
 
 // A delete.
-fn delete(store: &mut [u8], head: &[u8; 20], path: &[u8]) {
+fn delete(store: &mut [u8], head: &[u8; 16], path: &[u8]) {
     let size = fields::store_length(head, store.len());
     let done = dossier::delete(&mut store[0..size], fields::subject(head), path);
     show::answer(b"D", done.number, done.count);
 }
 
 // A view, into as many bytes of the output as the head says.
-fn view(store: &[u8], output: &mut [u8], head: &[u8; 20], path: &[u8]) {
+fn view(store: &[u8], output: &mut [u8], head: &[u8; 16], path: &[u8]) {
     let size = fields::store_length(head, store.len());
     let n = fields::output_length(head, output.len());
     view_into(

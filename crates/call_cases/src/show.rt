@@ -4,6 +4,11 @@ ghost use mathlib.Core.Path.{_≡_};
 ghost use Prim.Native.Nat.{_*_, _≤_, _<_};
 ghost use lib.ListN.{length};
 
+// A text, as it is.
+pub fn text(text: &[u8]) {
+    io::write_all(STDOUT_FILENO, text);
+}
+
 // A text, as a line.
 pub fn line(text: &[u8]) {
     io::write_all(STDOUT_FILENO, text);

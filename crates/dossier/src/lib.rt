@@ -1,4 +1,5 @@
 // The calls on a lent store: any bytes, of any length.
+mod own;
 mod rows;
 
 ghost use mathlib.Core.List.{[]};

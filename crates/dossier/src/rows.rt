@@ -1,4 +1,5 @@
 // The table of refusals walked row by row: the number of the first row that applies, or 0. Nothing is written here.
+use crate::own::own_live_row;
 ghost use mathlib.Core.Path.{_≡_};
 ghost use mathlib.Core.Bool.{_||_};
 ghost use lib.ListN.{length};
@@ -6,7 +7,7 @@ ghost use lib.Dec.{T, eqb};
 ghost use Rattle.model.specs.Path.{stepsOf};
 ghost use Rattle.model.specs.Store.{storeSize};
 ghost use Rattle.model.specs.Model.{openModel};
-ghost use Rattle.model.specs.Call.{goodPath, ownLiveRows, table};
+ghost use Rattle.model.specs.Call.{goodPath, table};
 ghost use Rattle.model.specs.Call as calls;
 ghost use Rattle.store.specs.Opened.{Opened};
 ghost use Rattle.dossier.specs.Rows.{rowCode, by, bringRows, placeRows, lentRows, rawRows, seenRows, viewRows};
@@ -31,21 +32,6 @@ fn raw_row(store: &[u8], subject: u8) -> u32
 {
     if store::some_raw(store, subject) {
         return 3;
-    }
-    0
-}
-
-// Rows 6 and 7 of an update or a delete: the path ends in the subject's label, and the element is live.
-fn own_live_row(store: &[u8], subject: u8, path: &[u8]) -> u32
-    requires { ⌜ Opened (now store) subject × T (goodPath (now path)) ⌝ }
-    ensures { λ r. ⌜ r ≡ rowCode (ownLiveRows subject (openModel (now (store .entry))) (stepsOf (now (path .entry)))) ⌝ }
-{
-    if !path::ends_in(path, subject) {
-        return 6;
-    }
-    let f = partition::find(store::partition_of(store, subject, subject), path);
-    if !f.found {
-        return 7;
     }
     0
 }

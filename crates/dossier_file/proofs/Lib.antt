@@ -1,3 +1,2 @@
--- Laws of this program.
-pub mod Naming
+-- Laws that the proofs of this program's functions cite.
 pub mod Zeros

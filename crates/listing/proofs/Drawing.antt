@@ -21,7 +21,7 @@ use Rattle.model.proofs.Bools.{and-l, and-r, cond-yes, cond-no, is-true}
 use Rattle.model.proofs.Paths.{same-eq, same-refl}
 use Rattle.path.proofs.Steps.{last-range}
 use Rattle.slot.proofs.Reading.{length-path, short-steps, short-value}
-use Rattle.text.specs.Line.{lineOf}
+use Rattle.line.specs.Line.{lineOf}
 use Rattle.listing.specs.Used.{Used, linesFrom}
 use Rattle.listing.proofs.Newer.{prefix-at, length-prefixes}
 

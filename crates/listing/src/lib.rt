@@ -90,7 +90,7 @@ fn put_all(
     ensures { λ r. ⌜ Wrote (now (out .entry)) 0 (listing subject (openModel (now (store .entry))) (stepsOf (now (path .entry)))) (now (out .exit)) r ⌝ }
     ensures { λ r. ⌜ r ≤ 64 * count + 64 ⌝ }
 {
-    let at = text::put_head(out, 0, octets::wide(subject), count);
+    let at = line::put_head(out, 0, octets::wide(subject), count);
     put_walk(store, subject, path, refs, out, at)
 }
 

@@ -25,7 +25,7 @@ fn put_above(out: &mut [u8], at: usize, slot: &[u8], d: usize) -> usize
 {
     let name = slot::step_name(slot, d);
     let label = octets::wide(slot::step_label(slot, d));
-    text::put_removed(out, at, narrow(d + 1), name, label)
+    line::put_removed(out, at, narrow(d + 1), name, label)
 }
 
 // The line of a slot's own element.
@@ -40,7 +40,7 @@ fn put_own(out: &mut [u8], at: usize, slot: &[u8]) -> usize
     let label = octets::wide(slot::step_label(slot, depth - 1));
     let kind = slot::kind_of(slot);
     let value = slot::value_of(slot);
-    text::put_live(out, at, narrow(depth), name, label, kind, value)
+    line::put_live(out, at, narrow(depth), name, label, kind, value)
 }
 
 // The lines of a slot's element: those of the removed elements above it whose paths have more than `from` steps, and its own.

@@ -22,7 +22,8 @@ use Rattle.model.proofs.Walks.{rest, rest-more, rest-end}
 use Rattle.path.specs.Common.{common, isBefore, Compared}
 use Rattle.path.proofs.Steps.{ends-range, parent-range}
 use Rattle.path.proofs.Common.{common-first, common-parent}
-use Rattle.slot.specs.Slot.{validSlot, Readable}
+use Rattle.slot.specs.Slot.{Readable}
+use Rattle.slot_valid.specs.Valid.{validSlot}
 use Rattle.slot.proofs.Reading.{length-path}
 use Rattle.partition.specs.Linked.{mayFollow, linked, goodSlot, goodSlots, pathBefore}
 use Rattle.partition.proofs.Linking.{linked-is}

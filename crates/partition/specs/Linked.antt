@@ -7,7 +7,7 @@ use Rattle.model.specs.Element.{Element}
 use Rattle.model.specs.Slot.{readPath}
 use Rattle.model.specs.Partition.{slotAt}
 use Rattle.path.specs.Common.{isBefore}
-use Rattle.slot.specs.Slot.{validSlot}
+use Rattle.slot_valid.specs.Valid.{validSlot}
 
 -- q may follow p in partition n: it comes after p, and its parent, if it ends in n, is a prefix of p
 unfoldable pub mayFollow : ℕ → List Step → List Step → Bool

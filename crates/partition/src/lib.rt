@@ -75,7 +75,7 @@ fn slot_good(part: &[u8], i: usize, n: u8) -> bool
     ensures { λ r. ⌜ r ≡ goodSlot n (pathBefore (now (part .entry)) i) (slotAt (now (part .entry)) i) ⌝ }
 {
     let s = slot_at(part, i);
-    if !slot::is_valid(s, n) {
+    if !slot_valid::is_valid(s, n) {
         return false;
     }
     if i == 0 {
@@ -230,7 +230,7 @@ pub fn insert(part: &mut [u8], at: usize, path: &[u8], kind: u8, value: &[u8])
     let start = 4 + 40 * at;
     let end = start + 40;
     octets::shift_up(&mut part[start..1284], 40);
-    slot::write(&mut part[start..end], path, kind, value);
+    slot_write::write(&mut part[start..end], path, kind, value);
     part[0] = c + 1;
 }
 
@@ -241,5 +241,5 @@ pub fn replace(part: &mut [u8], at: usize, kind: u8, value: &[u8])
 {
     let start = 4 + 40 * at;
     let end = start + 40;
-    slot::replace_content(&mut part[start..end], kind, value);
+    slot_write::replace_content(&mut part[start..end], kind, value);
 }

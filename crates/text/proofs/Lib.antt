@@ -1,5 +1,4 @@
--- Laws of what is laid over an output, for the proofs here and in the crates above; numbers, values and lines.
+-- Laws of what is laid over an output, for the proofs here and in the crates above; numbers and values.
 pub mod Overlays
 pub mod Numbers
 pub mod Showing
-pub mod Lines

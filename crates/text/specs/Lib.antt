@@ -1,4 +1,3 @@
 -- What the contracts of this crate cite beside the model.
 pub mod Overlay
-pub mod Line
 pub mod Digits

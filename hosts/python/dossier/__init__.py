@@ -1,4 +1,4 @@
-"""The labelled dossier store, as a module over the archive libdossier_c.a (`rt staticlib dossier_c`).
+"""The labelled dossier store, as a module over the archive libdossier_c.a (`tools/build --archive dossier_c`).
 
 A Store is 41,088 bytes, its own or lent: 32 partitions, one for each label. Subjects view and change one tree of elements, each
 under a label of their own; what a subject sees and is told owes nothing to subjects that he does not dominate. The calls
@@ -6,7 +6,8 @@ themselves are proved; this module only passes bytes and numbers on and reads th
 
 The typed calls are methods of Store. Below them, dossier.raw has the four calls on bytes of any length and on numbers of 32
 bits: no number is narrowed on its way, so that a subject of 287 is refused by 2 and a kind of 256 by 5. A number that does not
-fit 32 bits never reaches the library: it raises ValueError.
+fit 32 bits never reaches the library: it raises ValueError. What is no whole number, such as 7.5, 1.0 or "1", raises TypeError
+as a level, compartments, a label, a subject, a name, a kind or a measure.
 
 A subject of label 0 inserts a style and a subject of label 16 a measure under it; 0 deletes the style, and 16 still sees it,
 marked as removed, above his measure:

@@ -41,17 +41,26 @@ class Refusal(IntEnum):
 
 
 class Refused(Exception):
-    """A refused call, with its answer and its refusal."""
+    """A refused call, with its answer and its refusal. The answer is its one argument, from which it is made anew where it is
+    unpickled or copied."""
 
     def __init__(self, answer):
+        super().__init__(answer)
         self.answer = answer
         self.refusal = Refusal(answer.number)
-        super().__init__(f"refused by {answer.number}: {self.refusal.name}")
+
+    def __str__(self):
+        """The refusal's number and name."""
+        return f"refused by {self.answer.number}: {self.refusal.name}"
 
 
 class UnexpectedAnswer(Exception):
     """An answer that is not one of those that this module knows: the archive is of another version."""
 
     def __init__(self, answer):
+        super().__init__(answer)
         self.answer = answer
-        super().__init__(f"unexpected answer: number {answer.number}, count {answer.count}")
+
+    def __str__(self):
+        """The answer's two numbers."""
+        return f"unexpected answer: number {self.answer.number}, count {self.answer.count}"

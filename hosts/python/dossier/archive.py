@@ -19,7 +19,7 @@ def archive_path():
     archive = Path(os.environ.get(VARIABLE, ROOT / "target" / "staticlib")) / "libdossier_c.a"
     if not archive.is_file():
         raise FileNotFoundError(
-            f"{archive} is missing: run `rt staticlib dossier_c` at the project's root, "
+            f"{archive} is missing: run `tools/build --archive dossier_c` at the project's root, "
             f"or set {VARIABLE} to the folder that holds libdossier_c.a"
         )
     return archive

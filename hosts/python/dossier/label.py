@@ -1,4 +1,5 @@
 """Labels: a level and a set of compartments."""
+import operator
 from dataclasses import dataclass
 from enum import IntEnum, IntFlag
 
@@ -29,16 +30,20 @@ class Label:
     compartments: Compartment = Compartment.NONE
 
     def __post_init__(self):
-        """Refuses a level and compartments that no label has."""
-        if not (0 <= self.level < 4 and 0 <= self.compartments < 8):
-            raise ValueError(f"no label has level {self.level} and compartments {self.compartments}")
+        """Keeps whole numbers as a level and compartments. TypeError if one is none, ValueError if no label has them."""
+        level, compartments = operator.index(self.level), operator.index(self.compartments)
+        if not (0 <= level < 4 and 0 <= compartments < 8):
+            raise ValueError(f"no label has level {level} and compartments {compartments}")
+        object.__setattr__(self, "level", Level(level))
+        object.__setattr__(self, "compartments", Compartment(compartments))
 
     @classmethod
     def from_number(cls, number):
-        """The label of a number; ValueError if it is none."""
+        """The label of a number. TypeError if it is no whole number, ValueError if it is no label."""
+        number = operator.index(number)
         if not 0 <= number < 32:
             raise ValueError(f"{number} is no label")
-        return cls(Level(number // 8), Compartment(number % 8))
+        return cls(number // 8, number % 8)
 
     @property
     def number(self):

@@ -46,7 +46,7 @@ _library = _load()
 
 
 def _word(number):
-    """A number that fits 32 bits, or ValueError: ctypes would cut it."""
+    """A number that fits 32 bits. TypeError if it is no whole number, ValueError if it does not fit: ctypes would cut it."""
     number = operator.index(number)
     if not 0 <= number < 2**32:
         raise ValueError(f"{number} does not fit 32 bits")

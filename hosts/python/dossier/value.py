@@ -1,4 +1,5 @@
 """Kinds and values."""
+import operator
 from dataclasses import dataclass
 from enum import IntEnum
 
@@ -30,9 +31,11 @@ class Measure:
     kind = Kind.MEASURE
 
     def __post_init__(self):
-        """Refuses a number that does not fit."""
-        if not -(2**31) <= self.hundredths < 2**31:
-            raise ValueError(f"the measure {self.hundredths} does not fit 32 signed bits")
+        """Keeps a whole number that fits. TypeError if it is none, ValueError if it does not fit."""
+        hundredths = operator.index(self.hundredths)
+        if not -(2**31) <= hundredths < 2**31:
+            raise ValueError(f"the measure {hundredths} does not fit 32 signed bits")
+        object.__setattr__(self, "hundredths", hundredths)
 
     def to_bytes(self):
         """Four bytes, lowest first."""

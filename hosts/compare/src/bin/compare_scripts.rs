@@ -190,8 +190,10 @@ fn pieces<'a>(mut script: &'a [u8], random: &mut Random) -> Vec<&'a [u8]> {
 
 /// The verbs of a script that keeps its store small.
 const MIXED: &[&str] = &["V", "V", "I", "I", "I", "I", "U", "D"];
-/// The verbs of a script that fills its store.
+/// The verbs of a script whose store grows.
 const GROWING: &[&str] = &["I", "I", "I", "I", "I", "I", "I", "I", "I", "I", "I", "I", "V", "U", "D"];
+/// The verbs of a script that fills its store: nothing is taken from it.
+const FILLING: &[&str] = &["I", "I", "I", "I", "I", "I", "I", "I", "I", "I", "I", "I", "V"];
 
 /// What a script is made of: its lines, their verbs and labels, and how many of a hundred are spoiled.
 struct Mix {
@@ -211,7 +213,7 @@ fn mix(random: &mut Random) -> Mix {
 
 /// The mix of a script whose listings outgrow the output space.
 fn large() -> Mix {
-    Mix { lines: 4000, verbs: GROWING, labels: (0..LABELS).collect(), spoiled: 0 }
+    Mix { lines: 4000, verbs: FILLING, labels: (0..LABELS).collect(), spoiled: 0 }
 }
 
 /// A random script; one in twenty is large. Its last line may lack its byte 10.

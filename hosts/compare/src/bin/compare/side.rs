@@ -1,4 +1,5 @@
 //! The calls that are compared, and who carries them out.
+use dossier::raw;
 use reference::Answer;
 
 /// Which of the four calls.
@@ -35,14 +36,14 @@ pub fn reference(call: &Call, store: &mut [u8], output: &mut [u8]) -> Answer {
     }
 }
 
-/// The product.
+/// The product, through the calls on bytes of the package in hosts/rust.
 pub fn product(call: &Call, store: &mut [u8], output: &mut [u8]) -> Answer {
     let Call { name, subject, path, kind, value, .. } = call;
-    let product::Answer { number, count } = match name {
-        Name::View => product::view(store, *subject, path, output),
-        Name::Insert => product::insert(store, *subject, path, *kind, value),
-        Name::Update => product::update(store, *subject, path, *kind, value),
-        Name::Delete => product::delete(store, *subject, path),
+    let dossier::Answer { number, count } = match name {
+        Name::View => raw::view(store, *subject, path, output),
+        Name::Insert => raw::insert(store, *subject, path, *kind, value),
+        Name::Update => raw::update(store, *subject, path, *kind, value),
+        Name::Delete => raw::delete(store, *subject, path),
     };
     Answer { number, count }
 }

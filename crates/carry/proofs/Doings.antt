@@ -1,0 +1,180 @@
+-- Calls carried out: the value that a line brings, and what a call answered, wrote and left.
+use mathlib.Core.Path.{_≡_, refl, sym, ap, subst, _∙_}
+use mathlib.Core.Option.{Option, none, some}
+use mathlib.Core.List.{List, [], _∷_, _++_, append-assoc}
+use Prim.Native.Nat.{ℕ, _+_, _-_, _≤_, _<_}
+use native.Mathlib.Omega.{arith}
+use borrow.Rule.Slice.PartMut.{putMid}
+use lib.ListN.{length, take, drop, set, take-append-drop, length-drop}
+use lib.Seq.{lt-length-set, take-all, take-at, length-take-le, drop-append-le}
+use Rattle.model.specs.Path.{Step, isPrefix, stepsOf}
+use Rattle.model.specs.Value.{Content}
+use Rattle.model.specs.Model.{openModel, ownSet}
+use Rattle.model.specs.Call.{Call, Op, subject, subjectOf, view, insert, update, delete, extending, table, refusal, refused, done, effect, outcome, outcomeBy}
+use Rattle.model.specs.Run.{answerOf, outputAfter}
+use Rattle.model.specs.Script.{contentOf, outputSpace}
+use Rattle.model.proofs.Sets.{length-keep}
+use Rattle.model.proofs.Keeps.{open-valid}
+use Rattle.model.proofs.Refusals.{view-fits}
+use Rattle.text.specs.Overlay.{overlay}
+use Rattle.text.proofs.Overlays.{over-room, wrote-none}
+use Rattle.dossier.specs.Did.{Did}
+use Rattle.dossier.specs.Rows.{by}
+use Rattle.script.specs.declared.Value.{Value}
+use Rattle.script.specs.declared.Value.the-variants.{Group, Measure, Text}
+use Rattle.script.specs.Values.{valueOf}
+use Rattle.script.specs.declared.Call as read
+use Rattle.script.specs.declared.Read.{Read}
+use Rattle.carry.specs.Done.{measureBytes, opOn, callOn, Performed}
+
+-- ---- the value
+
+-- bytes of a buffer that has room for four, one after another
+pub second-fits : (b : List ℕ) (x : ℕ) → 4 ≤ length b → 1 < length (set b 0 x)
+second-fits b x h = lt-length-set b 0 x (omega arith)
+
+pub third-fits : (b : List ℕ) (x y : ℕ) → 4 ≤ length b → 2 < length (set (set b 0 x) 1 y)
+third-fits b x y h = lt-length-set (set b 0 x) 1 y (lt-length-set b 0 x (omega arith))
+
+pub fourth-fits : (b : List ℕ) (x y z : ℕ) → 4 ≤ length b → 3 < length (set (set (set b 0 x) 1 y) 2 z)
+fourth-fits b x y z h = lt-length-set (set (set b 0 x) 1 y) 2 z (lt-length-set (set b 0 x) 1 y (lt-length-set b 0 x (omega arith)))
+
+pub measure-laid : (b : List ℕ) (x y z w : ℕ) → 4 ≤ length b → take 4 (set (set (set (set b 0 x) 1 y) 2 z) 3 w) ≡ x ∷ y ∷ z ∷ w ∷ []
+measure-laid [] x y z w h = absurd (omega arith)
+measure-laid (a ∷ []) x y z w h = absurd (omega arith)
+measure-laid (a ∷ b ∷ []) x y z w h = absurd (omega arith)
+measure-laid (a ∷ b ∷ c ∷ []) x y z w h = absurd (omega arith)
+measure-laid (a ∷ b ∷ c ∷ d ∷ r) x y z w h = refl
+
+module _ {v : Value} (l : List ℕ) where
+  pub group-brought : v ≡ Group → (b : List ℕ) → contentOf (valueOf v l) ≡ record { kind = 0; value = take 0 b }
+  group-brought e b = ap (λ (u : Value). contentOf (valueOf u l)) e
+
+  pub measure-brought : {m : ℕ} → v ≡ Measure m → (b : List ℕ) → take 4 b ≡ measureBytes m → contentOf (valueOf v l) ≡ record { kind = 1; value = take 4 b }
+  measure-brought e b f = ap (λ (u : Value). contentOf (valueOf u l)) e ∙ ap (λ (t : List ℕ). record { kind = 1; value = t }) (sym f)
+
+  pub text-brought : {n : ℕ} → v ≡ Text n → {at : ℕ} → at ≡ length l - n → (b : List ℕ) {t y : List ℕ} → t ≡ drop at l → y ≡ take (length t) t ++ drop (length t) b
+      → contentOf (valueOf v l) ≡ record { kind = 2; value = take (length t) y }
+  text-brought {n} e {at} f b {t} {y} g h =
+      ap (λ (u : Value). contentOf (valueOf u l)) e
+      ∙ ap (λ (s : List ℕ). record { kind = 2; value = s })
+      (sym
+      (ap (take (length t)) (h ∙ ap (λ (s : List ℕ). s ++ drop (length t) b) (take-all (length t) t (omega arith)))
+      ∙ take-at t (drop (length t) b) (length t) refl
+      ∙ g
+      ∙ ap (λ (k : ℕ). drop k l) f))
+
+-- the part of a line from a place on
+pub text-part : (l : List ℕ) (at : ℕ) → take (length l - at) (drop at l) ≡ drop at l
+text-part l at = let d : length (drop at l) ≡ length l - at = length-drop at l in take-all (length l - at) (drop at l) (omega arith)
+
+pub text-short : (l : List ℕ) (at m : ℕ) → length l ≤ m → length (take (length l - at) (drop at l)) ≤ m
+text-short l at m h =
+    let d : length (drop at l) ≡ length l - at = length-drop at l in
+    let e : length (take (length l - at) (drop at l)) ≡ length (drop at l) = ap length (text-part l at) in
+    omega arith
+
+-- a call with the content that was brought
+pub brought-did : (f : Content → Op) (l : List ℕ) (v : Value) {k : ℕ} (size : ℕ) (y : List ℕ) → contentOf (valueOf v l) ≡ record { kind = k; value = take size y }
+    → {s : ℕ} {b : List ℕ} {i j : ℕ} {t : List ℕ} → Did (by s (f (record { kind = k; value = take (size - 0) y }))) b [] i j t []
+    → Did (by s (f (contentOf (valueOf v l)))) b [] i j t []
+brought-did f l v {k} size y e {s} {b} {i} {j} {t} d =
+    let z : size - 0 ≡ size = omega arith in
+    subst (λ (c : Content). Did (by s (f c)) b [] i j t []) (ap (λ (n : ℕ). record { kind = k; value = take n y }) z ∙ sym e) d
+
+-- ---- what was done
+
+-- a call that has no output writes nothing
+pub silent-performed : {c : Call} {s : List ℕ} {k n : ℕ} {t : List ℕ} (o : List ℕ) → Did c s [] k n t [] → {i j m : ℕ} → (i ≡ k) × (j ≡ n) × (m ≡ 0)
+    → Performed c s o i j m t o
+unfolding outputAfter
+silent-performed {c} {s} o d e =
+    let w : answerOf c s .written ≡ [] = none-of (answerOf c s .written) (drop (length (answerOf c s .written)) []) (d .output-is) in
+    record {
+      number-is = e .0 ∙ d .number-is;
+      count-is = e .1 ∙ d .count-is;
+      store-is = d .store-is;
+      written = rw (e .2, w) (wrote-none o 0);
+    }
+  where
+    none-of : (x y : List ℕ) → [] ≡ x ++ y → x ≡ []
+    none-of [] y q = refl
+    none-of (a ∷ x) y q = let z : length {A = ℕ} [] ≡ length ((a ∷ x) ++ y) = ap length q in absurd (omega arith)
+
+-- a view counts the bytes that it writes
+view-count : (s : ℕ) (p : List ℕ) (room : ℕ) (b : List ℕ) → answerOf (by s (view p room)) b .count ≡ length (answerOf (by s (view p room)) b .written)
+unfolding answerOf outcome refused effect done
+view-count s p room b = go (refusal (table (by s (view p room)) (openModel b)))
+  where
+    go : (r : Option ℕ) → outcomeBy r (by s (view p room)) (openModel b) .answer .count ≡ length (outcomeBy r (by s (view p room)) (openModel b) .answer .written)
+    go none = refl
+    go (some k) = refl
+
+-- it was lent the first n bytes of the output
+pub view-performed : (s : ℕ) (b p o : List ℕ) (n : ℕ) → n ≤ length o → {k c : ℕ} {y : List ℕ}
+    → Did (by s (view p (length (take n o)))) b (take n o) k c b y → Performed (by s (view p n)) b o k c c b (putMid 0 n o y)
+unfolding outputAfter
+view-performed s b p o n h {k} {c} {y} d =
+    let l : length (take n o) ≡ n = length-take-le n o h in
+    let e : Did (by s (view p n)) b (take n o) k c b y = subst (λ (m : ℕ). Did (by s (view p m)) b (take n o) k c b y) l d in
+    let w : List ℕ = answerOf (by s (view p n)) b .written in
+    let f : length w ≤ n = view-fits (subject s) p n b in
+    let g : drop (length w) (take n o) ++ drop n o ≡ drop (length w) o =
+    sym (drop-append-le (length w) (take n o) (drop n o) (omega arith)) ∙ ap (drop (length w)) (take-append-drop n o) in
+    let q : overlay o 0 w ≡ w ++ drop (length w) o = over-room o 0 w (omega arith) ∙ ap (λ (m : ℕ). w ++ drop m o) (zero-plus (length w)) in
+    record {
+      number-is = e .number-is;
+      count-is = e .count-is;
+      store-is = e .store-is;
+      written =
+          record {
+            laid =
+                ap (λ (z : List ℕ). z ++ drop n o) (e .output-is)
+                ∙ append-assoc w (drop (length w) (take n o)) (drop n o)
+                ∙ ap (λ (z : List ℕ). w ++ z) g
+                ∙ sym q;
+            ends = omega (arith, e .count-is, view-count s p n b);
+          };
+    }
+  where
+    zero-plus : (m : ℕ) → 0 + m ≡ m
+    zero-plus m = omega arith
+
+-- ---- the call that was read
+
+pub performed-as : {c d : Call} → c ≡ d → {s o : List ℕ} {i j m : ℕ} {t o' : List ℕ} → Performed d s o i j m t o' → Performed c s o i j m t o'
+performed-as e p = rw e p
+
+pub on-call : (r : Read) {c : read.Call} → r .call ≡ c → (p l : List ℕ) → callOn r p l ≡ by (r .subject) (opOn c p l)
+on-call r e p l = ap (λ (c : read.Call). by (r .subject) (opOn c p l)) e
+
+-- ---- it answers small numbers and writes no more than it was lent
+
+extending-few : (p : List Step) (s : ℕ) (b : List ℕ) → extending p (ownSet s (openModel b)) ≤ 16384
+unfolding extending
+extending-few p s b = omega (arith, length-keep (λ e. isPrefix p (e .path)) (ownSet s (openModel b)), open-valid b s .few)
+
+pub answer-small : (s : ℕ) (k : read.Call) (p l b : List ℕ)
+    → (answerOf (by s (opOn k p l)) b .count ≤ 16384) × (length (answerOf (by s (opOn k p l)) b .written) ≤ 16384)
+unfolding answerOf outcome refused effect done subjectOf
+answer-small s read.the-variants.View p l b =
+    let f : length (answerOf (by s (view p outputSpace)) b .written) ≤ outputSpace = view-fits (subject s) p outputSpace b in
+    (omega (arith, f, view-count s p outputSpace b), f)
+answer-small s (read.the-variants.Insert v) p l b = go (refusal (table (by s (insert p (contentOf (valueOf v l)))) (openModel b)))
+  where
+    go : (r : Option ℕ) → (outcomeBy r (by s (insert p (contentOf (valueOf v l)))) (openModel b) .answer .count ≤ 16384)
+        × (length (outcomeBy r (by s (insert p (contentOf (valueOf v l)))) (openModel b) .answer .written) ≤ 16384)
+    go none = (omega arith, omega arith)
+    go (some k) = (omega arith, omega arith)
+answer-small s (read.the-variants.Update v) p l b = go (refusal (table (by s (update p (contentOf (valueOf v l)))) (openModel b)))
+  where
+    go : (r : Option ℕ) → (outcomeBy r (by s (update p (contentOf (valueOf v l)))) (openModel b) .answer .count ≤ 16384)
+        × (length (outcomeBy r (by s (update p (contentOf (valueOf v l)))) (openModel b) .answer .written) ≤ 16384)
+    go none = (extending-few (stepsOf p) s b, omega arith)
+    go (some k) = (omega arith, omega arith)
+answer-small s read.the-variants.Delete p l b = go (refusal (table (by s (delete p)) (openModel b)))
+  where
+    go : (r : Option ℕ) → (outcomeBy r (by s (delete p)) (openModel b) .answer .count ≤ 16384)
+        × (length (outcomeBy r (by s (delete p)) (openModel b) .answer .written) ≤ 16384)
+    go none = (extending-few (stepsOf p) s b, omega arith)
+    go (some k) = (omega arith, omega arith)

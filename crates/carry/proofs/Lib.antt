@@ -1,0 +1,4 @@
+-- Laws of lines carried out.
+pub mod Doings
+pub mod Answering
+pub mod Carrying

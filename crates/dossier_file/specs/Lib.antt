@@ -1,2 +1,0 @@
--- Definitions that this program's contracts cite.
-pub mod Names

@@ -1,0 +1,3 @@
+-- Laws of a slot's validity.
+pub mod Unused
+pub mod Validity

@@ -1,0 +1,20 @@
+-- `slot::step_good`: a step of the path, or a place behind it.
+use borrow.Author.Needs.{needs}
+use Rattle.model.specs.Slot.{stepAt}
+use Rattle.slot_valid.proofs.Unused.{used-place, unused-place}
+use Rattle.slot_valid.proofs.step_good.Statement.{statement}
+use Rattle.slot_valid.proofs.step_good.Tie as tie
+
+pub step-good-spec : {M : Type 1} → statement M
+step-good-spec =
+    tie.close
+    (tie.spec
+    (λ c. search needs)  -- step-follows-requires
+    (λ c.
+    let a = c .before .before .before .args in
+    used-place (a .d) (a .before) (a .i) (stepAt (a .slot .now) (a .i)) (c .before .if1 .taken) (c .step-follows .ensures))  -- returns
+    (λ c. search needs)  -- slot-key-requires
+    (λ c.
+    let a = c .before .before .before .args in
+    unused-place (a .d) (a .before) (a .i) (stepAt (a .slot .now) (a .i)) (c .before .if1 .left) (c .slot-key .ensures))  -- returns-2
+    )

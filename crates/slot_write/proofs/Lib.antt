@@ -1,0 +1,2 @@
+-- Laws of a slot as it is written.
+pub mod Filling

@@ -1,0 +1,182 @@
+"""Document 01 as a Python program, written from the document alone: the reference that expected output comes from.
+
+It holds labels, paths, values, the bytes of slots, partitions and stores, what is in view and how it is listed, and the four
+calls on a model of the store. It shares no code with the crates, and runs by no part of them.
+"""
+import struct
+
+STORE = 41088
+PARTITION = 1284
+SLOT = 40
+
+
+def dominates(l, m):
+    """Whether label l dominates label m."""
+    return l // 8 >= m // 8 and (l % 8) & (m % 8) == m % 8
+
+
+def good_steps(steps):
+    """Whether the steps, if any, are those of an element's path."""
+    if len(steps) > 6:
+        return False
+    if not all(1 <= name <= 65535 and label <= 31 for name, label in steps):
+        return False
+    return all(dominates(after[1], before[1]) for before, after in zip(steps, steps[1:]))
+
+
+def good_value(kind, value):
+    """Whether a value has one of the three forms."""
+    if kind == 0:
+        return len(value) == 0
+    if kind == 1:
+        return len(value) == 4
+    return kind == 2 and 1 <= len(value) <= 16 and all(32 <= b <= 126 for b in value)
+
+
+def read_path(raw):
+    """The steps of a path given as three bytes a step, or None."""
+    if len(raw) % 3 != 0:
+        return None
+    steps = tuple((raw[i] + 256 * raw[i + 1], raw[i + 2]) for i in range(0, len(raw), 3))
+    return steps if good_steps(steps) else None
+
+
+def slot_bytes(steps, kind, value):
+    """An element as 40 bytes."""
+    b = bytearray(SLOT)
+    b[0] = len(steps)
+    for i, (name, label) in enumerate(steps):
+        b[1 + 2 * i : 3 + 2 * i] = struct.pack("<H", name)
+        b[13 + i] = label
+    b[19] = kind
+    b[20] = len(value)
+    b[21 : 21 + len(value)] = value
+    return bytes(b)
+
+
+def read_slot(b):
+    """The element of 40 bytes, or None: its steps, its kind and its value."""
+    if not 1 <= b[0] <= 6 or b[20] > 16:
+        return None
+    steps = tuple((b[1 + 2 * i] + 256 * b[2 + 2 * i], b[13 + i]) for i in range(b[0]))
+    kind, value = b[19], bytes(b[21 : 21 + b[20]])
+    if not good_steps(steps) or not good_value(kind, value):
+        return None
+    return (steps, kind, value) if slot_bytes(steps, kind, value) == bytes(b) else None
+
+
+def read_partition(label, b):
+    """The set of a well-formed partition, each path with its kind and value; None if it is not well formed."""
+    count = b[0]
+    if count > 32 or any(b[1:4]) or any(b[4 + SLOT * count :]):
+        return None
+    elements = [read_slot(b[4 + SLOT * i : 44 + SLOT * i]) for i in range(count)]
+    if None in elements:
+        return None
+    paths = [e[0] for e in elements]
+    if any(p[-1][1] != label for p in paths) or any(p >= q for p, q in zip(paths, paths[1:])):
+        return None
+    for p in paths:
+        if any(p[n - 1][1] == label and p[:n] not in paths for n in range(1, len(p))):
+            return None
+    return {p: (kind, value) for p, kind, value in elements}
+
+
+def partition_bytes(elements):
+    """A set laid out in 1,284 bytes."""
+    slots = b"".join(slot_bytes(p, *elements[p]) for p in sorted(elements))
+    return (bytes([len(elements), 0, 0, 0]) + slots).ljust(PARTITION, b"\0")
+
+
+def line(path, content):
+    """A line of a listing: the path's last step, then its kind and value, or None where the element is removed."""
+    name, label = path[-1]
+    text = b"%d\t%d\t%d\t" % (len(path), name, label)
+    if content is None:
+        return text + b"R\t-\t-\n"
+    kind, value = content
+    if kind == 0:
+        return text + b"P\tG\t-\n"
+    if kind == 1:
+        return text + b"P\tM\t%d\n" % struct.unpack("<i", value)
+    return text + b"P\tT\t" + value + b"\n"
+
+
+class Model:
+    """The model: the store's length, and for each label a set, or the bytes of a partition that is not well formed."""
+
+    def __init__(self, store):
+        self.store = bytes(store)
+        self.parts = []
+        if len(store) == STORE:
+            self.parts = [self.opened(n) for n in range(32)]
+
+    def opened(self, n):
+        """Partition n: its set, or its bytes."""
+        raw = self.store[PARTITION * n : PARTITION * (n + 1)]
+        read = read_partition(n, raw)
+        return raw if read is None else read
+
+    def bytes(self):
+        """The store."""
+        if not self.parts:
+            return self.store
+        return b"".join(p if isinstance(p, bytes) else partition_bytes(p) for p in self.parts)
+
+    def in_view(self, subject):
+        """The paths in the subject's view, without the root."""
+        live = [p for n in range(32) if dominates(subject, n) for p in self.parts[n]]
+        return {p[:n] for p in live for n in range(1, len(p) + 1)}
+
+    def is_live(self, path):
+        """Whether the element is in the set of its label."""
+        return path in self.parts[path[-1][1]]
+
+    def listing(self, subject, path):
+        """The printed view."""
+        listed = sorted(p for p in self.in_view(subject) if p[: len(path)] == path)
+        lines = [line(p, self.parts[p[-1][1]].get(p)) for p in listed]
+        return b"VIEW\t%d\t%d\n" % (subject, len(listed)) + b"".join(lines)
+
+    def refusal(self, op, subject, raw, kind, value):
+        """The number of the first of the causes 1 to 9 that applies, else 0; and the path."""
+        if len(self.store) != STORE:
+            return 1, None
+        if subject > 31:
+            return 2, None
+        if any(isinstance(self.parts[n], bytes) for n in range(32) if dominates(subject, n)):
+            return 3, None
+        path = read_path(raw)
+        if path is None or (path == () and op != "V"):
+            return 4, None
+        if op in "IU" and not good_value(kind, value):
+            return 5, path
+        if op in "IUD" and path[-1][1] != subject:
+            return 6, path
+        if op == "V" and path != () and path not in self.in_view(subject):
+            return 7, path
+        if op == "I" and path[:-1] != () and path[:-1] not in self.in_view(subject):
+            return 7, path
+        if op in "UD" and not self.is_live(path):
+            return 7, path
+        if op == "I" and self.is_live(path):
+            return 8, path
+        if op == "I" and len(self.parts[subject]) == 32:
+            return 9, path
+        return 0, path
+
+    def call(self, op, subject, raw, kind=0, value=b"", room=0):
+        """A call: its number, its count and what it writes."""
+        number, path = self.refusal(op, subject, raw, kind, value)
+        if number != 0:
+            return number, 0, b""
+        if op == "V":
+            text = self.listing(subject, path)
+            return (10, 0, b"") if room < len(text) else (0, len(text), text)
+        own = self.parts[subject]
+        gone = [p for p in own if op in "UD" and p[: len(path)] == path]
+        for p in gone:
+            del own[p]
+        if op in "IU":
+            own[path] = (kind, bytes(value))
+        return 0, len(gone), b""
