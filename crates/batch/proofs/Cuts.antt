@@ -2,7 +2,7 @@
 use mathlib.Core.Path.{_≡_, refl, sym, ap, _∙_}
 use mathlib.Core.Bool.{Bool, false, not}
 use mathlib.Core.List.{List, [], _∷_, _++_, append-nil}
-use Prim.Native.Nat.{ℕ, zero, suc, _+_, _-_, _≤_, _<_}
+use Prim.Native.Nat.{ℕ, zero, suc, _+_, _-_, _≤_, _<_, min}
 use native.Mathlib.Omega.{arith}
 use native.Mathlib.Numerals.{add-one}
 use lib.ListN.{length, take, drop, getD, length-drop, drop-of-length-le}
@@ -26,6 +26,7 @@ lines-ended p (x ∷ i) =
     (λ (t : T (eqb x 10)). rw (is-true (eqb x 10) t) (ap (λ (ls : List (List ℕ)). p ∷ ls) (lines-ended [] i)))
     (λ (t : T (not (eqb x 10))). rw (is-false (eqb x 10) t) (lines-ended (p ++ (x ∷ [])) i))
 
+-- the lines that end in the first part, and then in the second
 pub ended-append : (p a b : List ℕ) → ended p (a ++ b) ≡ ended p a ++ ended (begun p a) b
 ended-append p [] b = refl
 ended-append p (x ∷ a) b =
@@ -33,6 +34,7 @@ ended-append p (x ∷ a) b =
     (λ (t : T (eqb x 10)). rw (is-true (eqb x 10) t) (ap (λ (ls : List (List ℕ)). p ∷ ls) (ended-append [] a b)))
     (λ (t : T (not (eqb x 10))). rw (is-false (eqb x 10) t) (ended-append (p ++ (x ∷ [])) a b))
 
+-- the line begun behind both parts
 pub begun-append : (p a b : List ℕ) → begun p (a ++ b) ≡ begun (begun p a) b
 begun-append p [] b = refl
 begun-append p (x ∷ a) b =
@@ -42,6 +44,7 @@ begun-append p (x ∷ a) b =
 
 -- ---- the first line end is sought
 
+-- none are passed
 pub seek-start : (s : List ℕ) → NotBefore s 0
 seek-start s = record { within = omega arith; same = omega arith }
 
@@ -76,16 +79,19 @@ module _ {s : List ℕ} {i : ℕ} (inv : NotBefore s i) where
     front : drop i s ≡ getD s i 0 ∷ drop (i + 1) s
     front = rw (add-one i) (drop-cons s i 0 h)
 
+    -- a line end
     pub seek-found : getD s i 0 ≡ 10 → i ≡ endAt s
     seek-found e =
         let z : endAt (drop i s) ≡ 0 = ap endAt front ∙ rw e in
         omega (arith, inv .same)
 
+    -- another byte
     pub seek-next : (getD s i 0 ≡ 10 → ⊥) → NotBefore s (i + 1)
     seek-next f =
         let z : endAt (drop i s) ≡ suc (endAt (drop (i + 1) s)) = ap endAt front ∙ rw (ne-eqb (getD s i 0) 10 f) in
         record { within = omega arith; same = omega (arith, inv .same) }
 
+  -- the input ends
   pub seek-end : length s ≤ i → i ≡ endAt s
   seek-end h =
       let z : endAt (drop i s) ≡ 0 = ap endAt (drop-of-length-le s h) in
@@ -93,53 +99,34 @@ module _ {s : List ℕ} {i : ℕ} (inv : NotBefore s i) where
 
 -- ---- where the first line ends
 
-pub end-within : (i : List ℕ) → endAt i ≤ length i
-end-within [] = omega arith
-end-within (x ∷ i) =
-    let h : endAt i ≤ length i = end-within i in
+-- it is within the input, of which what is used goes one byte further, if there is one
+pub end-span : (i : List ℕ) → (endAt i ≤ length i) × (span i ≡ min (suc (endAt i)) (length i))
+end-span [] = (omega arith, omega arith)
+end-span (x ∷ i) =
+    let h = end-span i in
     decide (eqb x 10)
-    (λ (t : T (eqb x 10)). rw (is-true (eqb x 10) t) (omega arith))
-    (λ (t : T (not (eqb x 10))). rw (is-false (eqb x 10) t) (omega arith))
-
--- what is used of an input is a part of it, and not none
-pub span-within : (i : List ℕ) → span i ≤ length i
-span-within [] = omega arith
-span-within (x ∷ i) =
-    let h : span i ≤ length i = span-within i in
-    decide (eqb x 10)
-    (λ (t : T (eqb x 10)). rw (is-true (eqb x 10) t) (omega arith))
-    (λ (t : T (not (eqb x 10))). rw (is-false (eqb x 10) t) (omega arith))
-
-pub span-some : (i : List ℕ) → 0 < length i → 0 < span i
-span-some [] h = h
-span-some (x ∷ i) h =
-    decide (eqb x 10)
-    (λ (t : T (eqb x 10)). rw (is-true (eqb x 10) t) (omega arith))
-    (λ (t : T (not (eqb x 10))). rw (is-false (eqb x 10) t) (omega arith))
+    (λ (t : T (eqb x 10)). rw (is-true (eqb x 10) t) (omega arith, omega arith))
+    (λ (t : T (not (eqb x 10))). rw (is-false (eqb x 10) t) (omega arith, omega arith))
 
 -- an input without a line end: nothing ends in it
-pub endless : (p i : List ℕ) → endAt i ≡ length i → (span i ≡ length i) × (ended p i ≡ []) × (begun p i ≡ p ++ i)
-endless p [] = λ h. (refl, refl, sym (append-nil p))
+pub endless : (p i : List ℕ) → endAt i ≡ length i → (ended p i ≡ []) × (begun p i ≡ p ++ i)
+endless p [] = λ h. (refl, sym (append-nil p))
 endless p (x ∷ i) =
     decide (eqb x 10)
     (λ (t : T (eqb x 10)). rw (is-true (eqb x 10) t) (λ (h : 0 ≡ suc (length i)). absurd (omega arith)))
     (λ (t : T (not (eqb x 10))).
     rw (is-false (eqb x 10) t)
-    (λ (h : suc (endAt i) ≡ suc (length i)).
-    let k : endAt i ≡ length i = omega arith in
-    let e = endless (p ++ (x ∷ [])) i k in
-    (ap suc (e .0), e .1, e .2 ∙ append-snoc p x i)))
+    (λ (h : suc (endAt i) ≡ suc (length i)). let e = endless (p ++ (x ∷ [])) i (omega arith) in (e .0, e .1 ∙ append-snoc p x i)))
 
 -- an input with one: up to it there is one line, and none is begun
 pub ending : (p i : List ℕ) → endAt i < length i →
-    (span i ≡ suc (endAt i)) × (ended p (take (suc (endAt i)) i) ≡ (p ++ take (endAt i) i) ∷ []) × (begun p (take (suc (endAt i)) i) ≡ [])
+    (ended p (take (suc (endAt i)) i) ≡ (p ++ take (endAt i) i) ∷ []) × (begun p (take (suc (endAt i)) i) ≡ [])
 ending p [] = λ (h : 0 < 0). absurd (omega arith)
 ending p (x ∷ i) =
     decide (eqb x 10)
-    (λ (t : T (eqb x 10)). rw (is-true (eqb x 10) t) (λ (h : 0 < suc (length i)). (refl, ap (λ (l : List ℕ). l ∷ []) (sym (append-nil p)), refl)))
+    (λ (t : T (eqb x 10)). rw (is-true (eqb x 10) t) (λ (h : 0 < suc (length i)). (ap (λ (l : List ℕ). l ∷ []) (sym (append-nil p)), refl)))
     (λ (t : T (not (eqb x 10))).
     rw (is-false (eqb x 10) t)
     (λ (h : suc (endAt i) < suc (length i)).
-    let k : endAt i < length i = omega arith in
-    let e = ending (p ++ (x ∷ [])) i k in
-    (ap suc (e .0), e .1 ∙ ap (λ (l : List ℕ). l ∷ []) (append-snoc p x (take (endAt i) i)), e .2)))
+    let e = ending (p ++ (x ∷ [])) i (omega arith) in
+    (e .0 ∙ ap (λ (l : List ℕ). l ∷ []) (append-snoc p x (take (endAt i) i)), e .1)))

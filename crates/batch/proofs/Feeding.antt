@@ -10,7 +10,7 @@ use Rattle.model.specs.Script.{linesOf}
 use Rattle.carry.specs.Lines.{Printed, Carried}
 use Rattle.batch.specs.Pieces.{ended, begun, last, kept, TakenIn, Underway, Piece, Fed, usedBytes, wroteBytes, PiecesAsLines, CutsAgree, PiecesPrint}
 use Rattle.carry.proofs.Carrying.{printed-none, printed-append, printed-alike, printed-one, carried-one}
-use Rattle.batch.proofs.Cuts.{lines-ended, ended-append, begun-append, span-some}
+use Rattle.batch.proofs.Cuts.{lines-ended, ended-append, begun-append, end-span}
 use Rattle.batch.proofs.Keeping.{kept-kept, begun-alike, ended-alike, last-alike}
 
 -- ---- one piece
@@ -18,7 +18,7 @@ use Rattle.batch.proofs.Keeping.{kept-kept, begun-alike, ended-alike, l
 module _ {k s o i l' t o' : List ℕ} {used w n : ℕ} (a : TakenIn k s o i used w n l' t o') where
   -- of an input that is not empty something is used
   pub taken-some : 0 < length i → 0 < used
-  taken-some h = omega (arith, a .used-is, span-some i h)
+  taken-some h = omega (arith, a .used-is, end-span i .1)
 
   -- no other numbers, kept bytes, store or output are possible
   pub taken-one : {l2 t2 o2 : List ℕ} {used2 w2 n2 : ℕ} → TakenIn k s o i used2 w2 n2 l2 t2 o2

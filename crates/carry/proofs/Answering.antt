@@ -4,11 +4,14 @@ use mathlib.Core.Option.{Option, none, some}
 use mathlib.Core.List.{List, [], _∷_, _++_, append-assoc, append-nil}
 use Prim.Native.Nat.{ℕ, _+_, _-_, _*_, _≤_}
 use native.Mathlib.Omega.{arith}
-use lib.ListN.{length, take, drop}
+use lib.ListN.{length, take, drop, length-append}
 use lib.Seq.{take-at, drop-at}
+use mir.Syntax.{w32}
+use mir.Val.{Fits}
 use Rattle.model.specs.Text.{ascii, decimal}
 use Rattle.model.specs.Path.{stepsOf}
 use Rattle.model.specs.Call as Call
+use Rattle.model.specs.Call.{by, Told, counted}
 use Rattle.model.specs.Run.{answerOf, storeAfter}
 use Rattle.model.specs.Script as Script
 use Rattle.model.specs.Script.{ScriptCall, Reading, lentPath, contentOf, outputSpace, callOf, unreadLine, answerLines, output}
@@ -16,6 +19,7 @@ use Rattle.model.proofs.Lists.{Bytes}
 use Rattle.script.proofs.Buffers.{lent-steps}
 use Rattle.text.specs.Overlay.{Wrote}
 use Rattle.text.proofs.Overlays.{over-room, then, wrote-length}
+use Rattle.text.proofs.Widths.{decimal-short}
 use Rattle.script.specs.declared.Line.{Line}
 use Rattle.script.specs.declared.Line.the-variants as line
 use Rattle.script.specs.declared.Call as read
@@ -23,10 +27,9 @@ use Rattle.script.specs.declared.Read.{Read}
 use Rattle.script.specs.Values.{valueOf}
 use Rattle.script.specs.Calls as Calls
 use Rattle.script.specs.Calls.{readingOf, Spans}
-use Rattle.dossier.specs.Rows.{by}
 use Rattle.carry.specs.Done.{opOn, callOn, Performed}
 use Rattle.carry.specs.Lines.{answerLine, lineStore, Carried}
-use Rattle.carry.proofs.Doings.{answer-small}
+use Rattle.carry.proofs.Doings.{Small, answer-small}
 
 pub unread-line : ascii "A\t?\t0\n" ≡ unreadLine
 unfolding unreadLine
@@ -35,6 +38,10 @@ unread-line = refl
 pub answer-line : (k n : ℕ) → ascii "A\t" ++ (decimal k ++ ((9 ∷ []) ++ (decimal n ++ (10 ∷ [])))) ≡ answerLine k n
 unfolding answerLine
 answer-line k n = ap (λ (l : List ℕ). 65 ∷ 9 ∷ l) (sym (append-assoc (decimal k) (9 ∷ decimal n) (10 ∷ [])))
+
+-- how long it is, with numbers of 32 bits
+answer-short : {k n : ℕ} → Fits w32 k → Fits w32 n → length (answerLine k n) ≤ 24
+answer-short {k} {n} f g = rw (← answer-line k n, length-append (decimal k), length-append (decimal n)) (omega (arith, decimal-short k f, decimal-short n g))
 
 -- ---- a text laid over an output that has room for it
 
@@ -104,12 +111,17 @@ module _ (l q : List ℕ) {r : Line} (d : Reading l (readingOf r q l) × Spans r
           (op-same (c .call) (take (3 * c .steps) q) l (lent-steps q (c .steps) bytes n))
           ∙ ap (λ (k : ℕ). callOn c (take k q) l) z
 
-      module _ {s o : List ℕ} {k n w : ℕ} {t o' : List ℕ} (p : Performed (callOn c (take (3 * c .steps - 0) q) l) s o k n w t o') where
+      module _ {s o : List ℕ} {k n w : ℕ} {t o' : List ℕ} (p : Performed (callOn c (take (3 * c .steps - 0) q) l) s o (counted k n) w t o') where
         pub count-few : n ≤ 16384
-        count-few = omega (arith, p .count-is, answer-small (c .subject) (c .call) (take (3 * c .steps - 0) q) l s .0)
+        count-few =
+            subst (λ (x : Told). Small (x .result)) (sym (p .told-is)) (answer-small (c .subject) (c .call) (take (3 * c .steps - 0) q) l s .0)
 
         pub wrote-few : w ≤ 16384
         wrote-few = omega (arith, p .written .ends, answer-small (c .subject) (c .call) (take (3 * c .steps - 0) q) l s .1)
+
+        -- where the A line ends
+        pub answer-ends : {o'' : List ℕ} {z : ℕ} → Fits w32 k → Wrote o' w (answerLine k n) o'' z → z ≤ 16408
+        answer-ends f g = omega (arith, g .ends, wrote-few, answer-short {n = n} f (record { fits = omega (arith, count-few) }))
 
         pub call-carried : {o'' : List ℕ} {z : ℕ} → Wrote o' w (answerLine k n) o'' z → z ≤ length o → Carried (l ∷ []) s o z t o''
         unfolding answerLine answerLines
@@ -117,7 +129,7 @@ module _ (l q : List ℕ) {r : Line} (d : Reading l (readingOf r q l) × Spans r
             let a : Call.Call = callOn c (take (3 * c .steps - 0) q) l in
             let f : ScriptCall = record { subject = c .subject; op = Calls.opOf (c .call) (stepsOf (take (3 * c .steps) q)) l } in
             let y : answerOf a s .written ++ answerLine k n ≡ answerLines (answerOf (callOf f) s) =
-            ap₂ (λ (i j : ℕ). answerOf a s .written ++ answerLine i j) (p .number-is) (p .count-is)
+            ap (λ (x : Told). answerLines (record { told = x; written = answerOf a s .written })) (p .told-is)
             ∙ ap (λ (x : Call.Call). answerLines (answerOf x s)) (sym call-is) in
             carried-line (then (p .written) g) h l s t (some f) reads (y ∙ sym (append-nil (answerLines (answerOf (callOf f) s))))
             (p .store-is ∙ ap (λ (x : Call.Call). storeAfter x s) (sym call-is))

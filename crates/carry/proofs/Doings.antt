@@ -1,6 +1,5 @@
 -- Calls carried out: the value that a line brings, and what a call answered, wrote and left.
-use mathlib.Core.Path.{_≡_, refl, sym, ap, subst, _∙_}
-use mathlib.Core.Option.{Option, none, some}
+use mathlib.Core.Path.{_≡_, refl, sym, ap, ap₂, subst, _∙_}
 use mathlib.Core.List.{List, [], _∷_, _++_, append-assoc}
 use Prim.Native.Nat.{ℕ, _+_, _-_, _≤_, _<_}
 use native.Mathlib.Omega.{arith}
@@ -10,16 +9,16 @@ use lib.Seq.{lt-length-set, take-all, take-at, length-take-le, drop-append-le}
 use Rattle.model.specs.Path.{Step, isPrefix, stepsOf}
 use Rattle.model.specs.Value.{Content}
 use Rattle.model.specs.Model.{openModel, ownSet}
-use Rattle.model.specs.Call.{Call, Op, subject, subjectOf, view, insert, update, delete, extending, table, refusal, refused, done, effect, outcome, outcomeBy}
-use Rattle.model.specs.Run.{answerOf, outputAfter}
+use Rattle.model.specs.Call.{Call, by, Op, subjectOf, view, insert, update, delete, extending, Result, count, Told, counted, Outcome, refused, done, effect, writes, changes}
+use Rattle.model.specs.Run.{answerOf, storeAfter}
 use Rattle.model.specs.Script.{contentOf, outputSpace}
 use Rattle.model.proofs.Sets.{length-keep}
 use Rattle.model.proofs.Keeps.{open-valid}
-use Rattle.model.proofs.Refusals.{view-fits}
+use Rattle.model.proofs.Operations.{outcome-either}
+use Rattle.model.proofs.Refusals.{answer-fits}
 use Rattle.text.specs.Overlay.{overlay}
 use Rattle.text.proofs.Overlays.{over-room, wrote-none}
-use Rattle.dossier.specs.Did.{Did}
-use Rattle.dossier.specs.Rows.{by}
+use Rattle.promise.specs.Did.{Did}
 use Rattle.script.specs.declared.Value.{Value}
 use Rattle.script.specs.declared.Value.the-variants.{Group, Measure, Text}
 use Rattle.script.specs.Values.{valueOf}
@@ -76,55 +75,48 @@ text-short l at m h =
 
 -- a call with the content that was brought
 pub brought-did : (f : Content → Op) (l : List ℕ) (v : Value) {k : ℕ} (size : ℕ) (y : List ℕ) → contentOf (valueOf v l) ≡ record { kind = k; value = take size y }
-    → {s : ℕ} {b : List ℕ} {i j : ℕ} {t : List ℕ} → Did (by s (f (record { kind = k; value = take (size - 0) y }))) b [] i j t []
-    → Did (by s (f (contentOf (valueOf v l)))) b [] i j t []
-brought-did f l v {k} size y e {s} {b} {i} {j} {t} d =
+    → (s : ℕ) {b : List ℕ} {i : Told} {t : List ℕ} → Did (by s (f (record { kind = k; value = take (size - 0) y }))) b [] i t []
+    → Did (by s (f (contentOf (valueOf v l)))) b [] i t []
+brought-did f l v {k} size y e s {b} {i} {t} d =
     let z : size - 0 ≡ size = omega arith in
-    subst (λ (c : Content). Did (by s (f c)) b [] i j t []) (ap (λ (n : ℕ). record { kind = k; value = take n y }) z ∙ sym e) d
+    subst (λ (c : Content). Did (by s (f c)) b [] i t []) (ap (λ (n : ℕ). record { kind = k; value = take n y }) z ∙ sym e) d
 
 -- ---- what was done
 
 -- a call that has no output writes nothing
-pub silent-performed : {c : Call} {s : List ℕ} {k n : ℕ} {t : List ℕ} (o : List ℕ) → Did c s [] k n t [] → {i j m : ℕ} → (i ≡ k) × (j ≡ n) × (m ≡ 0)
-    → Performed c s o i j m t o
-unfolding outputAfter
+pub silent-performed : {c : Call} {s : List ℕ} {k n : ℕ} {t : List ℕ} (o : List ℕ) → Did c s [] (counted k n) t [] → {i j m : ℕ} → (i ≡ k) × (j ≡ n) × (m ≡ 0)
+    → Performed c s o (counted i j) m t o
+unfolding answerOf storeAfter
 silent-performed {c} {s} o d e =
     let w : answerOf c s .written ≡ [] = none-of (answerOf c s .written) (drop (length (answerOf c s .written)) []) (d .output-is) in
-    record {
-      number-is = e .0 ∙ d .number-is;
-      count-is = e .1 ∙ d .count-is;
-      store-is = d .store-is;
-      written = rw (e .2, w) (wrote-none o 0);
-    }
+    record { told-is = ap₂ counted (e .0) (e .1) ∙ d .told-is; store-is = d .store-is; written = rw (e .2, w) (wrote-none o 0) }
   where
     none-of : (x y : List ℕ) → [] ≡ x ++ y → x ≡ []
     none-of [] y q = refl
     none-of (a ∷ x) y q = let z : length {A = ℕ} [] ≡ length ((a ∷ x) ++ y) = ap length q in absurd (omega arith)
 
 -- a view counts the bytes that it writes
-view-count : (s : ℕ) (p : List ℕ) (room : ℕ) (b : List ℕ) → answerOf (by s (view p room)) b .count ≡ length (answerOf (by s (view p room)) b .written)
-unfolding answerOf outcome refused effect done
-view-count s p room b = go (refusal (table (by s (view p room)) (openModel b)))
-  where
-    go : (r : Option ℕ) → outcomeBy r (by s (view p room)) (openModel b) .answer .count ≡ length (outcomeBy r (by s (view p room)) (openModel b) .answer .written)
-    go none = refl
-    go (some k) = refl
+view-count : (s : ℕ) (p : List ℕ) (room : ℕ) (b : List ℕ) → answerOf (by s (view p room)) b .told .result ≡ count (length (answerOf (by s (view p room)) b .written))
+unfolding answerOf refused done effect writes
+view-count s p room b =
+    outcome-either (by s (view p room)) (openModel b) (λ (x : Outcome). x .answer .told .result ≡ count (length (x .answer .written))) (λ k. refl) (λ a. refl)
 
 -- it was lent the first n bytes of the output
 pub view-performed : (s : ℕ) (b p o : List ℕ) (n : ℕ) → n ≤ length o → {k c : ℕ} {y : List ℕ}
-    → Did (by s (view p (length (take n o)))) b (take n o) k c b y → Performed (by s (view p n)) b o k c c b (putMid 0 n o y)
-unfolding outputAfter
+    → Did (by s (view p (length (take n o)))) b (take n o) (counted k c) b y → Performed (by s (view p n)) b o (counted k c) c b (putMid 0 n o y)
+unfolding answerOf storeAfter
 view-performed s b p o n h {k} {c} {y} d =
     let l : length (take n o) ≡ n = length-take-le n o h in
-    let e : Did (by s (view p n)) b (take n o) k c b y = subst (λ (m : ℕ). Did (by s (view p m)) b (take n o) k c b y) l d in
+    let e : Did (by s (view p n)) b (take n o) (counted k c) b y = subst (λ (m : ℕ). Did (by s (view p m)) b (take n o) (counted k c) b y) l d in
     let w : List ℕ = answerOf (by s (view p n)) b .written in
-    let f : length w ≤ n = view-fits (subject s) p n b in
+    let f : length w ≤ n = answer-fits (by s (view p n)) b in
     let g : drop (length w) (take n o) ++ drop n o ≡ drop (length w) o =
     sym (drop-append-le (length w) (take n o) (drop n o) (omega arith)) ∙ ap (drop (length w)) (take-append-drop n o) in
     let q : overlay o 0 w ≡ w ++ drop (length w) o = over-room o 0 w (omega arith) ∙ ap (λ (m : ℕ). w ++ drop m o) (zero-plus (length w)) in
+    let r : count c ≡ count (length w) = ap (λ (x : Told). x .result) (e .told-is) ∙ view-count s p n b in
+    let size : c ≡ length w = cc in
     record {
-      number-is = e .number-is;
-      count-is = e .count-is;
+      told-is = e .told-is;
       store-is = e .store-is;
       written =
           record {
@@ -133,7 +125,7 @@ view-performed s b p o n h {k} {c} {y} d =
                 ∙ append-assoc w (drop (length w) (take n o)) (drop n o)
                 ∙ ap (λ (z : List ℕ). w ++ z) g
                 ∙ sym q;
-            ends = omega (arith, e .count-is, view-count s p n b);
+            ends = omega arith;
           };
     }
   where
@@ -142,7 +134,7 @@ view-performed s b p o n h {k} {c} {y} d =
 
 -- ---- the call that was read
 
-pub performed-as : {c d : Call} → c ≡ d → {s o : List ℕ} {i j m : ℕ} {t o' : List ℕ} → Performed d s o i j m t o' → Performed c s o i j m t o'
+pub performed-as : {c d : Call} → c ≡ d → {s o : List ℕ} {i : Told} {m : ℕ} {t o' : List ℕ} → Performed d s o i m t o' → Performed c s o i m t o'
 performed-as e p = rw e p
 
 pub on-call : (r : Read) {c : read.Call} → r .call ≡ c → (p l : List ℕ) → callOn r p l ≡ by (r .subject) (opOn c p l)
@@ -154,27 +146,22 @@ extending-few : (p : List Step) (s : ℕ) (b : List ℕ) → extending p (ownSet
 unfolding extending
 extending-few p s b = omega (arith, length-keep (λ e. isPrefix p (e .path)) (ownSet s (openModel b)), open-valid b s .few)
 
+-- a count of at most the output's room
+abbrev pub Small : Result → Type 0
+Small (count n) = n ≤ 16384
+
 pub answer-small : (s : ℕ) (k : read.Call) (p l b : List ℕ)
-    → (answerOf (by s (opOn k p l)) b .count ≤ 16384) × (length (answerOf (by s (opOn k p l)) b .written) ≤ 16384)
-unfolding answerOf outcome refused effect done subjectOf
+    → Small (answerOf (by s (opOn k p l)) b .told .result) × (length (answerOf (by s (opOn k p l)) b .written) ≤ 16384)
+unfolding answerOf refused done effect writes changes subjectOf
 answer-small s read.the-variants.View p l b =
-    let f : length (answerOf (by s (view p outputSpace)) b .written) ≤ outputSpace = view-fits (subject s) p outputSpace b in
-    (omega (arith, f, view-count s p outputSpace b), f)
-answer-small s (read.the-variants.Insert v) p l b = go (refusal (table (by s (insert p (contentOf (valueOf v l)))) (openModel b)))
-  where
-    go : (r : Option ℕ) → (outcomeBy r (by s (insert p (contentOf (valueOf v l)))) (openModel b) .answer .count ≤ 16384)
-        × (length (outcomeBy r (by s (insert p (contentOf (valueOf v l)))) (openModel b) .answer .written) ≤ 16384)
-    go none = (omega arith, omega arith)
-    go (some k) = (omega arith, omega arith)
-answer-small s (read.the-variants.Update v) p l b = go (refusal (table (by s (update p (contentOf (valueOf v l)))) (openModel b)))
-  where
-    go : (r : Option ℕ) → (outcomeBy r (by s (update p (contentOf (valueOf v l)))) (openModel b) .answer .count ≤ 16384)
-        × (length (outcomeBy r (by s (update p (contentOf (valueOf v l)))) (openModel b) .answer .written) ≤ 16384)
-    go none = (extending-few (stepsOf p) s b, omega arith)
-    go (some k) = (omega arith, omega arith)
-answer-small s read.the-variants.Delete p l b = go (refusal (table (by s (delete p)) (openModel b)))
-  where
-    go : (r : Option ℕ) → (outcomeBy r (by s (delete p)) (openModel b) .answer .count ≤ 16384)
-        × (length (outcomeBy r (by s (delete p)) (openModel b) .answer .written) ≤ 16384)
-    go none = (extending-few (stepsOf p) s b, omega arith)
-    go (some k) = (omega arith, omega arith)
+    let f : length (answerOf (by s (view p outputSpace)) b .written) ≤ outputSpace = answer-fits (by s (view p outputSpace)) b in
+    (rw (view-count s p outputSpace b) f, f)
+answer-small s (read.the-variants.Insert v) p l b =
+    outcome-either (by s (insert p (contentOf (valueOf v l)))) (openModel b) (λ (x : Outcome). Small (x .answer .told .result) × (length (x .answer .written) ≤ 16384))
+    (λ k. (omega arith, omega arith)) (λ a. (omega arith, omega arith))
+answer-small s (read.the-variants.Update v) p l b =
+    outcome-either (by s (update p (contentOf (valueOf v l)))) (openModel b) (λ (x : Outcome). Small (x .answer .told .result) × (length (x .answer .written) ≤ 16384))
+    (λ k. (omega arith, omega arith)) (λ a. (extending-few (stepsOf p) s b, omega arith))
+answer-small s read.the-variants.Delete p l b =
+    outcome-either (by s (delete p)) (openModel b) (λ (x : Outcome). Small (x .answer .told .result) × (length (x .answer .written) ≤ 16384))
+    (λ k. (omega arith, omega arith)) (λ a. (extending-few (stepsOf p) s b, omega arith))

@@ -2,11 +2,10 @@
 use mathlib.Core.Path.{_≡_}
 use mathlib.Core.List.{List, [], _∷_}
 use Prim.Native.Nat.{ℕ, _/_, _%_}
-use Rattle.model.specs.Call.{Call, Op, view, insert, update, delete}
+use Rattle.model.specs.Call.{Call, by, Op, view, insert, update, delete, Told}
 use Rattle.model.specs.Run.{answerOf, storeAfter}
 use Rattle.model.specs.Script.{contentOf, outputSpace}
 use Rattle.text.specs.Overlay.{Wrote}
-use Rattle.dossier.specs.Rows.{by}
 use Rattle.script.specs.Values.{valueOf}
 use Rattle.script.specs.declared.Call as read
 use Rattle.script.specs.declared.Read.{Read}
@@ -25,9 +24,8 @@ opOn read.the-variants.Delete p l = delete p
 abbrev pub callOn : Read → (path l : List ℕ) → Call
 callOn r p l = by (r .subject) (opOn (r .call) p l)
 
--- the call c on the store s: the number and the count, the store t afterwards, and what it wrote, laid over the output
-pub record Performed (c : Call) (s o : List ℕ) (number count wrote : ℕ) (t o' : List ℕ) : Type 0 where
-  pub number-is : number ≡ answerOf c s .number
-  pub count-is : count ≡ answerOf c s .count
+-- the call c on the store s: what it tells, the store t afterwards, and what it wrote, laid over the output
+pub record Performed (c : Call) (s o : List ℕ) (told : Told) (wrote : ℕ) (t o' : List ℕ) : Type 0 where
+  pub told-is : told ≡ answerOf c s .told
   pub store-is : t ≡ storeAfter c s
   pub written : Wrote o 0 (answerOf c s .written) o' wrote

@@ -7,9 +7,9 @@ ghost use mathlib.Core.List.{[]};
 ghost use Prim.Native.Nat.{_-_, _/_, _%_, _≤_, _<_};
 ghost use lib.ListN.{length, take};
 ghost use Rattle.model.specs.Call as calls;
+ghost use Rattle.model.specs.Call.{by, counted};
 ghost use Rattle.model.specs.Script.{contentOf};
-ghost use Rattle.dossier.specs.Did.{Did};
-ghost use Rattle.dossier.specs.Rows.{by};
+ghost use Rattle.promise.specs.Did.{Did};
 ghost use Rattle.script.specs.Values.{valueOf};
 ghost use Rattle.carry.specs.Done.{measureBytes, Performed, callOn};
 
@@ -74,7 +74,7 @@ fn bring(v: Value, line: &[u8], bytes: &mut [u8]) -> Content
 // A view, into the first 16,384 bytes of the output.
 fn view(store: &mut [u8], subject: u32, path: &[u8], out: &mut [u8]) -> Done
     requires { ⌜ 16384 ≤ length (now out) ⌝ }
-    ensures { λ r. ⌜ Performed (by subject (calls.view (now (path .entry)) 16384)) (now (store .entry)) (now (out .entry)) (r .number) (r .count) (r .wrote) (now (store .exit)) (now (out .exit)) ⌝ }
+    ensures { λ r. ⌜ Performed (by subject (calls.view (now (path .entry)) 16384)) (now (store .entry)) (now (out .entry)) (counted (r .number) (r .count)) (r .wrote) (now (store .exit)) (now (out .exit)) ⌝ }
 {
     let done = dossier::view(store, subject, path, &mut out[0..16384]);
     Done {
@@ -87,7 +87,7 @@ fn view(store: &mut [u8], subject: u32, path: &[u8], out: &mut [u8]) -> Done
 // An insert, its value brought by the line.
 fn insert(store: &mut [u8], subject: u32, path: &[u8], v: Value, line: &[u8]) -> dossier::Answer
     requires { ⌜ length (now line) ≤ 256 ⌝ }
-    ensures { λ r. ⌜ Did (by subject (calls.insert (now (path .entry)) (contentOf (valueOf v (now (line .entry)))))) (now (store .entry)) [] (r .number) (r .count) (now (store .exit)) [] ⌝ }
+    ensures { λ r. ⌜ Did (by subject (calls.insert (now (path .entry)) (contentOf (valueOf v (now (line .entry)))))) (now (store .entry)) [] (counted (r .number) (r .count)) (now (store .exit)) [] ⌝ }
 {
     let mut bytes = [0u8; 256];
     let c = bring(v, line, &mut bytes);
@@ -98,7 +98,7 @@ fn insert(store: &mut [u8], subject: u32, path: &[u8], v: Value, line: &[u8]) ->
 // An update, its value brought by the line.
 fn update(store: &mut [u8], subject: u32, path: &[u8], v: Value, line: &[u8]) -> dossier::Answer
     requires { ⌜ length (now line) ≤ 256 ⌝ }
-    ensures { λ r. ⌜ Did (by subject (calls.update (now (path .entry)) (contentOf (valueOf v (now (line .entry)))))) (now (store .entry)) [] (r .number) (r .count) (now (store .exit)) [] ⌝ }
+    ensures { λ r. ⌜ Did (by subject (calls.update (now (path .entry)) (contentOf (valueOf v (now (line .entry)))))) (now (store .entry)) [] (counted (r .number) (r .count)) (now (store .exit)) [] ⌝ }
 {
     let mut bytes = [0u8; 256];
     let c = bring(v, line, &mut bytes);
@@ -120,7 +120,7 @@ fn silent(done: dossier::Answer) -> Done
 // Carries out a call that was read from a line, its path given as bytes.
 pub fn perform(store: &mut [u8], read: Read, line: &[u8], path: &[u8], out: &mut [u8]) -> Done
     requires { ⌜ (length (now line) ≤ 256) × (16384 ≤ length (now out)) ⌝ }
-    ensures { λ r. ⌜ Performed (callOn read (now (path .entry)) (now (line .entry))) (now (store .entry)) (now (out .entry)) (r .number) (r .count) (r .wrote) (now (store .exit)) (now (out .exit)) ⌝ }
+    ensures { λ r. ⌜ Performed (callOn read (now (path .entry)) (now (line .entry))) (now (store .entry)) (now (out .entry)) (counted (r .number) (r .count)) (r .wrote) (now (store .exit)) (now (out .exit)) ⌝ }
 {
     let subject = read.subject;
     let call = read.call;

@@ -3,7 +3,7 @@ mod calls;
 
 use script::Line;
 ghost use mathlib.Core.List.{[], _∷_};
-ghost use Prim.Native.Nat.{_+_, _≤_};
+ghost use Prim.Native.Nat.{_≤_};
 ghost use lib.ListN.{length};
 ghost use Rattle.model.specs.Script.{unreadLine};
 ghost use Rattle.text.specs.Overlay.{Wrote};
@@ -20,7 +20,6 @@ fn put_unread(out: &mut [u8]) -> usize
 fn put_answer(out: &mut [u8], at: usize, number: u32, count: u32) -> usize
     requires { ⌜ at ≤ 16384 ⌝ }
     ensures { λ r. ⌜ Wrote (now (out .entry)) at (answerLine number count) (now (out .exit)) r ⌝ }
-    ensures { λ r. ⌜ r ≤ at + 24 ⌝ }
 {
     let a = text::put_bytes(out, at, b"A\t");
     let b = text::put_decimal(out, a, number);

@@ -1,98 +1,73 @@
--- What a call has done, refused or not.
+-- What each operation has done, refused or not, from what its rows and the functions of the store say.
 use mathlib.Core.Path.{_≡_, refl, sym, ap, ap₂, _∙_}
-use mathlib.Core.Option.{none, some}
+use mathlib.Core.Bool.{not}
 use mathlib.Core.List.{List, [], _++_}
 use Prim.Native.Nat.{ℕ, zero, suc, _+_, _≤_, _<_}
 use native.Mathlib.Omega.{arith}
 use lib.ListN.{length, take, drop}
 use lib.Seq.{take-at, drop-at, length-take-le, drop-append-add}
-use lib.Dec.{T}
-use mir.Facts.{leb-no}
-use Rattle.model.specs.Path.{stepsOf, endsIn, key}
+use lib.Dec.{T, leb}
+use mir.Facts.{yes-ltb, no-ltb, yes-leb, no-leb}
+use Rattle.model.specs.Path.{stepsOf, key}
 use Rattle.model.specs.Value.{Content, allowed, bringable}
 use Rattle.model.specs.Element.{Element, contains, remove}
 use Rattle.model.specs.Partition.{partitionSize, layout}
 use Rattle.model.specs.Store.{partitionStart, hasPartition, replace}
-use Rattle.model.specs.Model.{Model, held, isHeld, elements, openCell, openModel, ownSet, live}
-use Rattle.model.specs.Call.{Answer, Call, Op, view, insert, update, delete, goodPath, table, added, callerRows, opRows, subjectOf, refusal, refused, done, extending, effect}
-use Rattle.model.specs.Run.{answerOf, writeSet, outputAfter}
-use Rattle.model.proofs.Bools.{not-not}
+use Rattle.model.specs.Model.{held, isHeld, elements, openCell, openModel, ownSet}
+use Rattle.model.specs.View.{listing}
+use Rattle.model.specs.Rows.{rowCode, goodPath, pathRows, bringRows, lookRows, ownLiveRows, placeRows, roomRows}
+use Rattle.model.specs.Call.{view, insert, update, delete, opRows, counted, changes, writes, extending, added, effect}
+use Rattle.model.proofs.Bools.{cond-yes, cond-no}
 use Rattle.model.proofs.Slots.{allowed-length}
 use Rattle.model.proofs.Partitions.{ValidSet, length-layout}
 use Rattle.model.proofs.Sets.{remove-valid, remove-fewer, remove-lacks}
 use Rattle.model.proofs.Stores.{Has, has, yes-has, replace-placed, length-replace, has-replace, partition-own}
-use Rattle.model.proofs.Restriction.{live-own, Admitted, admitted}
+use Rattle.model.proofs.Rows.{Passes, passes-append, row-applies, rows-stop, rows-behind, rows-pass}
 use Rattle.model.proofs.Keeps.{open-valid}
+use Rattle.model.proofs.Operations.{Brought, rows-brought, rows-own-live, Placed, rows-placed}
 use Rattle.model.proofs.Noninterference.{open-layout}
-use Rattle.model.proofs.Refusals.{effect-number, answer-refused, store-refused, answer-done, store-done}
 use Rattle.path.proofs.Steps.{good-path}
 use Rattle.store.specs.Opened.{Opened, Vacant}
-use Rattle.dossier.specs.Did.{Did}
-use Rattle.dossier.specs.Rows.{rowCode, by}
-use Rattle.dossier.proofs.Walking.{numbered, code-none, code-some, opened-own, Brought}
+use Rattle.table.proofs.Walking.{opened-own}
+use Rattle.listing.specs.Listed.{laidIn}
+use Rattle.promise.specs.Did.{Acted}
+use Rattle.promise.proofs.Doing.{acted-refused, acted-done}
 
--- a refused call leaves the store and the output
-pub did-refused : (c : Call) (b o : List ℕ) {k : ℕ} → k ≡ rowCode (table c (openModel b)) → (k ≡ 0 → ⊥) → Did c b o k 0 b o
-unfolding outputAfter refused
-did-refused c b o {k} e h =
-    let q : refusal (table c (openModel b)) ≡ some (rowCode (table c (openModel b))) = code-some (table c (openModel b)) (λ z. h (e ∙ z)) in
-    let a : answerOf c b ≡ refused (rowCode (table c (openModel b))) .answer = answer-refused c b (rowCode (table c (openModel b))) q in
-    record {
-      number-is = e ∙ sym (ap (λ (x : Answer). x .number) a);
-      count-is = sym (ap (λ (x : Answer). x .count) a);
-      store-is = sym (store-refused c b (rowCode (table c (openModel b))) q);
-      output-is = sym (ap (λ (x : Answer). x .written ++ drop (length (x .written)) o) a);
-    }
+-- ---- a view
 
--- ---- a call that is not refused
+module _ (s : ℕ) (b p o : List ℕ) (f : Opened b s) {k : ℕ} (e : k ≡ rowCode (lookRows s (openModel b) p)) where
+  pub view-stops : (k ≡ 0 → ⊥) → Acted (view p (length o)) s b o (counted k 0) b o
+  unfolding opRows
+  view-stops h = acted-refused (view p (length o)) s b o (f .formed) (rows-stop (lookRows s (openModel b) p) _ e h) h
 
-op-numbered : (o : Op) (s : ℕ) (m : Model) → T (numbered (opRows o s m))
-unfolding opRows
-op-numbered (view p room) s m = tt
-op-numbered (insert p c) s m = tt
-op-numbered (update p c) s m = tt
-op-numbered (delete p) s m = tt
+  -- the listing was laid over the output if it fits
+  module _ (z : k ≡ 0) {n : ℕ} (m : n ≡ length (listing s (openModel b) (stepsOf p))) {x : List ℕ} (l : length x ≡ length o)
+      (g : x ≡ laidIn (listing s (openModel b) (stepsOf p)) o) where
+    text : List ℕ
+    text = listing s (openModel b) (stepsOf p)
 
-module _ (s : ℕ) (b : List ℕ) (o : Op) (z : 0 ≡ rowCode (table (by s o) (openModel b))) where
-  all-numbered : T (numbered (table (by s o) (openModel b)))
-  unfolding table callerRows subjectOf
-  all-numbered = op-numbered o s (openModel b)
+    looked : Passes (lookRows s (openModel b) p)
+    looked = rows-pass (lookRows s (openModel b) p) tt e z
 
-  no-refusal : refusal (table (by s o) (openModel b)) ≡ none
-  no-refusal = code-none (table (by s o) (openModel b)) all-numbered (sym z)
+    pub view-short : length x < n → Acted (view p (length o)) s b o (counted 10 0) b x
+    unfolding laidIn opRows text
+    view-short h =
+        let w : length o < length text = omega arith in
+        let q : x ≡ o = g ∙ cond-no (leb (length text) (length o)) (text ++ drop (length text) o) o (no-leb w) in
+        rw q
+        (acted-refused (view p (length o)) s b o (f .formed) (rows-behind (lookRows s (openModel b) p) (roomRows (length o) text) looked (row-applies _ _ (yes-ltb w)))
+        (λ y. absurd (omega arith)))
 
-  pub done-admitted : Admitted (by s o) (openModel b)
-  done-admitted = admitted (by s o) (openModel b) no-refusal
+    pub view-done : n ≤ length x → Acted (view p (length o)) s b o (counted 0 n) b x
+    unfolding laidIn opRows effect writes text
+    view-done h =
+        let w : length text ≤ length o = omega arith in
+        rw m
+        (acted-done (view p (length o)) s b o (f .formed)
+        (passes-append (lookRows s (openModel b) p) (roomRows (length o) text) looked (no-ltb w, tt)) refl refl
+        (g ∙ cond-yes (leb (length text) (length o)) (text ++ drop (length text) o) o (yes-leb w)))
 
-  pub done-opened : Opened b s
-  unfolding openModel subjectOf
-  done-opened = record { size = done-admitted .size; label = done-admitted .label; formed = done-admitted .sound }
-
-  -- it leaves what the effect says, its bytes laid over the output
-  pub did-laid : (y : List ℕ) {r : ℕ} {x z : List ℕ} → r ≡ effect o s (openModel b) .answer .count → x ≡ writeSet s (effect o s (openModel b) .change) b
-      → z ≡ effect o s (openModel b) .answer .written ++ drop (length (effect o s (openModel b) .answer .written)) y → Did (by s o) b y 0 r x z
-  unfolding outputAfter subjectOf
-  did-laid y f g h =
-      let a : answerOf (by s o) b ≡ effect o s (openModel b) .answer = answer-done (by s o) b no-refusal in
-      record {
-        number-is = sym (ap (λ (w : Answer). w .number) a ∙ effect-number o s (openModel b));
-        count-is = f ∙ sym (ap (λ (w : Answer). w .count) a);
-        store-is = g ∙ sym (store-done (by s o) b no-refusal);
-        output-is = h ∙ sym (ap (λ (w : Answer). w .written ++ drop (length (w .written)) y) a);
-      }
-
-  -- one that writes no output
-  pub did-done : effect o s (openModel b) .answer .written ≡ [] → {r : ℕ} {x : List ℕ} → r ≡ effect o s (openModel b) .answer .count
-      → x ≡ writeSet s (effect o s (openModel b) .change) b → Did (by s o) b [] 0 r x []
-  did-done w f g = did-laid [] f g (sym (ap (λ (l : List ℕ). l ++ drop (length l) []) w))
-
-pub delete-did : (s : ℕ) (b p : List ℕ) → 0 ≡ rowCode (table (by s (delete p)) (openModel b)) → {r : ℕ} {x : List ℕ}
-    → (r ≡ extending (stepsOf p) (ownSet s (openModel b))) × (x ≡ replace s (layout (remove (stepsOf p) (ownSet s (openModel b)))) b)
-    → Did (by s (delete p)) b [] 0 r x []
-unfolding effect done
-delete-did s b p z g = did-done s b (delete p) z refl (g .0) (g .1)
-
--- ---- an insert that is not refused
+-- ---- what is brought
 
 -- a kind that has a value is a byte
 allowed-kind : (k : ℕ) (v : List ℕ) → T (allowed k v) → k < 256
@@ -102,39 +77,67 @@ allowed-kind (suc zero) v t = omega arith
 allowed-kind (suc (suc zero)) v t = omega arith
 allowed-kind (suc (suc (suc k))) v t = absurd t
 
-pub brought-kind : (p : List ℕ) (c : Content) → Brought p c → c .kind < 256
-unfolding bringable
-brought-kind p c h = allowed-kind (c .kind) (c .value) (h .content)
+module _ (p : List ℕ) (c : Content) {k : ℕ} (e : k ≡ rowCode (bringRows p c)) (z : k ≡ 0) where
+  brought-passes : Passes (bringRows p c)
+  brought-passes = rows-pass (bringRows p c) tt e z
 
-module _ (s : ℕ) (b p : List ℕ) (c : Content) (z : 0 ≡ rowCode (table (by s (insert p c)) (openModel b))) where
-  insert-admitted : Admitted (by s (insert p c)) (openModel b)
-  insert-admitted = done-admitted s b (insert p c) z
+  pub brought : Brought p c
+  brought = rows-brought p c brought-passes
 
-  pub insert-brought : Brought p c
+  pub brought-kind : c .kind < 256
+  unfolding bringable
+  brought-kind = allowed-kind (c .kind) (c .value) (brought .content)
+
+  -- it is short enough to be written
+  pub brought-short : (length p ≤ 20) × (length (c .value) ≤ 16)
+  unfolding bringable
+  brought-short = (omega (arith, good-path p (brought .path) .few), allowed-length (c .kind) (c .value) (brought .content))
+
+-- ---- an insert
+
+module _ (s : ℕ) (b p : List ℕ) (c : Content) (o : Opened b s) {j : ℕ} (f : j ≡ rowCode (bringRows p c)) where
+  pub insert-stops : (j ≡ 0 → ⊥) → Acted (insert p c) s b [] (counted j 0) b []
   unfolding opRows
-  insert-brought =
-      record { path = not-not (goodPath p) (insert-admitted .rows .0); content = not-not (bringable c) (insert-admitted .rows .1 .0) }
+  insert-stops h = acted-refused (insert p c) s b [] (o .formed) (rows-stop (bringRows p c) _ f h) h
 
-  pub insert-vacant : Vacant b s (stepsOf p)
-  unfolding opRows subjectOf
-  insert-vacant =
-      let own : T (endsIn s (stepsOf p)) = not-not (endsIn s (stepsOf p)) (insert-admitted .rows .1 .1 .0) in
-      record {
-        own = opened-own (done-opened s b (insert p c) z);
-        free = leb-no (insert-admitted .rows .1 .1 .1 .1 .1 .0);
-        lacks = rw (live-own s (openModel b) (stepsOf p) own) at (insert-admitted .rows .1 .1 .1 .1 .0);
-      }
+  module _ (y : j ≡ 0) {k : ℕ} (e : k ≡ rowCode (placeRows s (openModel b) (stepsOf p))) where
+    pub insert-misplaced : (k ≡ 0 → ⊥) → Acted (insert p c) s b [] (counted k 0) b []
+    unfolding opRows
+    insert-misplaced h = acted-refused (insert p c) s b [] (o .formed) (rows-behind (bringRows p c) _ (brought-passes p c f y) e) h
 
-  pub insert-did : {x : List ℕ} → x ≡ replace s (layout (added (stepsOf p) c (ownSet s (openModel b)))) b → Did (by s (insert p c)) b [] 0 0 x []
-  unfolding effect done
-  insert-did g = did-done s b (insert p c) z refl refl g
+    module _ (z : k ≡ 0) where
+      placed : Passes (placeRows s (openModel b) (stepsOf p))
+      placed = rows-pass (placeRows s (openModel b) (stepsOf p)) tt e z
 
--- what was brought is short enough to be written
-pub brought-short : (p : List ℕ) (c : Content) → Brought p c → (length p ≤ 20) × (length (c .value) ≤ 16)
-unfolding bringable
-brought-short p c h = (omega (arith, good-path p (h .path) .few), allowed-length (c .kind) (c .value) (h .content))
+      pub insert-vacant : Vacant b s (stepsOf p)
+      insert-vacant =
+          let q : Placed s (openModel b) (stepsOf p) = rows-placed s (openModel b) (stepsOf p) placed in
+          record { own = opened-own o; free = q .free; lacks = q .lacks }
 
--- ---- an update that is not refused
+      pub insert-done : {x : List ℕ} → x ≡ replace s (layout (added (stepsOf p) c (ownSet s (openModel b)))) b → Acted (insert p c) s b [] (counted 0 0) x []
+      unfolding opRows effect changes
+      insert-done g = acted-done (insert p c) s b [] (o .formed) (passes-append (bringRows p c) (placeRows s (openModel b) (stepsOf p)) (brought-passes p c f y) placed) refl g refl
+
+-- ---- a delete
+
+module _ (s : ℕ) (b p : List ℕ) (o : Opened b s) where
+  pub delete-stops : T (not (goodPath p)) → Acted (delete p) s b [] (counted 4 0) b []
+  unfolding opRows
+  delete-stops t = acted-refused (delete p) s b [] (o .formed) (row-applies _ _ t) (λ y. absurd (omega arith))
+
+  module _ (t : T (not (not (goodPath p)))) {k : ℕ} (e : k ≡ rowCode (ownLiveRows s (openModel b) (stepsOf p))) where
+    pub delete-none : (k ≡ 0 → ⊥) → Acted (delete p) s b [] (counted k 0) b []
+    unfolding opRows
+    delete-none h = acted-refused (delete p) s b [] (o .formed) (rows-behind (pathRows p) _ (t, tt) e) h
+
+    pub delete-done : k ≡ 0 → {r : ℕ} {x : List ℕ}
+        → (r ≡ extending (stepsOf p) (ownSet s (openModel b))) × (x ≡ replace s (layout (remove (stepsOf p) (ownSet s (openModel b)))) b)
+        → Acted (delete p) s b [] (counted 0 r) x []
+    unfolding opRows effect changes
+    delete-done z g =
+        rw (g .0) (acted-done (delete p) s b [] (o .formed) (t, rows-pass (ownLiveRows s (openModel b) (stepsOf p)) tt e z) refl (g .1) refl)
+
+-- ---- an update
 
 -- a partition replaced twice
 replace-twice : (n : ℕ) (x y b : List ℕ) → T (hasPartition n b) → length y ≡ partitionSize → replace n x (replace n y b) ≡ replace n x b
@@ -151,68 +154,66 @@ replace-twice n x y b t fit =
     ∙ drop-at y _ partitionSize fit)
     ∙ sym (replace-placed n x b t)
 
-module _ (s : ℕ) (b p : List ℕ) (c : Content) (z : 0 ≡ rowCode (table (by s (update p c)) (openModel b))) where
-  update-admitted : Admitted (by s (update p c)) (openModel b)
-  update-admitted = done-admitted s b (update p c) z
-
-  update-opened : Opened b s
-  update-opened = done-opened s b (update p c) z
-
-  pub update-brought : Brought p c
+module _ (s : ℕ) (b p : List ℕ) (c : Content) (o : Opened b s) {j : ℕ} (f : j ≡ rowCode (bringRows p c)) where
+  pub update-stops : (j ≡ 0 → ⊥) → Acted (update p c) s b [] (counted j 0) b []
   unfolding opRows
-  update-brought =
-      record { path = not-not (goodPath p) (update-admitted .rows .0); content = not-not (bringable c) (update-admitted .rows .1 .0) }
+  update-stops h = acted-refused (update p c) s b [] (o .formed) (rows-stop (bringRows p c) _ f h) h
 
-  update-live : T (contains (ownSet s (openModel b)) (stepsOf p))
-  unfolding opRows subjectOf
-  update-live =
-      let own : T (endsIn s (stepsOf p)) = not-not (endsIn s (stepsOf p)) (update-admitted .rows .1 .1 .0) in
-      rw (live-own s (openModel b) (stepsOf p) own) at (not-not (live (openModel b) (stepsOf p)) (update-admitted .rows .1 .1 .1 .0))
+  module _ (y : j ≡ 0) {k : ℕ} (e : k ≡ rowCode (ownLiveRows s (openModel b) (stepsOf p))) where
+    pub update-none : (k ≡ 0 → ⊥) → Acted (update p c) s b [] (counted k 0) b []
+    unfolding opRows
+    update-none h = acted-refused (update p c) s b [] (o .formed) (rows-behind (bringRows p c) _ (brought-passes p c f y) e) h
 
-  -- what is left of the subject's set, and the store with it
-  left : List Element
-  left = remove (stepsOf p) (ownSet s (openModel b))
+    module _ (z : k ≡ 0) where
+      own-live : Passes (ownLiveRows s (openModel b) (stepsOf p))
+      own-live = rows-pass (ownLiveRows s (openModel b) (stepsOf p)) tt e z
 
-  left-valid : ValidSet key s left
-  unfolding left
-  left-valid = remove-valid s (stepsOf p) (ownSet s (openModel b)) (open-valid b s)
+      -- what is left of the subject's set, and the store with it
+      left : List Element
+      left = remove (stepsOf p) (ownSet s (openModel b))
 
-  own-partition : T (hasPartition s b)
-  own-partition = yes-has s b (update-opened .size) (update-opened .label)
+      left-valid : ValidSet key s left
+      unfolding left
+      left-valid = remove-valid s (stepsOf p) (ownSet s (openModel b)) (open-valid b s)
 
-  left-cell : openModel (replace s (layout left) b) .cell s ≡ held left
-  unfolding openModel
-  left-cell = ap (openCell s) (partition-own s (layout left) b own-partition (length-layout left)) ∙ open-layout s left left-valid
+      own-partition : T (hasPartition s b)
+      own-partition = yes-has s b (o .size) (o .label)
 
-  left-set : ownSet s (openModel (replace s (layout left) b)) ≡ left
-  unfolding ownSet elements
-  left-set = ap elements left-cell
+      left-cell : openModel (replace s (layout left) b) .cell s ≡ held left
+      unfolding openModel
+      left-cell = ap (openCell s) (partition-own s (layout left) b own-partition (length-layout left)) ∙ open-layout s left left-valid
 
-  pub update-vacant : {x : List ℕ} → x ≡ replace s (layout (remove (stepsOf p) (ownSet s (openModel b)))) b → Vacant x s (stepsOf p)
-  unfolding left isHeld
-  update-vacant e =
-      let few : length (remove (stepsOf p) (ownSet s (openModel b))) < length (ownSet s (openModel b)) = remove-fewer s (stepsOf p) (ownSet s (openModel b)) update-live in
-      let most : length (ownSet s (openModel b)) ≤ 32 = open-valid b s .few in
-      rw e
-      (record {
-        own =
-            record {
-              size = length-replace s (layout left) b (length-layout left) ∙ update-opened .size;
-              label = update-opened .label;
-              formed = rw left-cell tt;
-            };
-        free = rw left-set (omega arith);
-        lacks = rw left-set (remove-lacks s (stepsOf p) (ownSet s (openModel b)));
-      })
+      left-set : ownSet s (openModel (replace s (layout left) b)) ≡ left
+      unfolding ownSet elements
+      left-set = ap elements left-cell
 
-  pub update-did : {r : ℕ} {x y : List ℕ}
-      → (r ≡ extending (stepsOf p) (ownSet s (openModel b))) × (x ≡ replace s (layout (remove (stepsOf p) (ownSet s (openModel b)))) b)
-      → y ≡ replace s (layout (added (stepsOf p) c (ownSet s (openModel x)))) x
-      → Did (by s (update p c)) b [] 0 r y []
-  unfolding effect done left
-  update-did g h =
-      did-done s b (update p c) z refl (g .0)
-      (h
-      ∙ ap (λ (l : List ℕ). replace s (layout (added (stepsOf p) c (ownSet s (openModel l)))) l) (g .1)
-      ∙ ap (λ (es : List Element). replace s (layout (added (stepsOf p) c es)) (replace s (layout left) b)) left-set
-      ∙ replace-twice s (layout (added (stepsOf p) c left)) (layout left) b own-partition (length-layout left))
+      pub update-vacant : {x : List ℕ} → x ≡ replace s (layout (remove (stepsOf p) (ownSet s (openModel b)))) b → Vacant x s (stepsOf p)
+      unfolding left isHeld
+      update-vacant q =
+          let live : T (contains (ownSet s (openModel b)) (stepsOf p)) = rows-own-live s (openModel b) (stepsOf p) own-live .1 in
+          let few : length left < length (ownSet s (openModel b)) = remove-fewer s (stepsOf p) (ownSet s (openModel b)) live in
+          let most : length (ownSet s (openModel b)) ≤ 32 = open-valid b s .few in
+          rw q
+          (record {
+            own =
+                record {
+                  size = length-replace s (layout left) b (length-layout left) ∙ o .size;
+                  label = o .label;
+                  formed = rw left-cell tt;
+                };
+            free = rw left-set (omega arith);
+            lacks = rw left-set (remove-lacks s (stepsOf p) (ownSet s (openModel b)));
+          })
+
+      pub update-done : {r : ℕ} {x w : List ℕ}
+          → (r ≡ extending (stepsOf p) (ownSet s (openModel b))) × (x ≡ replace s (layout (remove (stepsOf p) (ownSet s (openModel b)))) b)
+          → w ≡ replace s (layout (added (stepsOf p) c (ownSet s (openModel x)))) x
+          → Acted (update p c) s b [] (counted 0 r) w []
+      unfolding opRows effect changes left
+      update-done g h =
+          rw (g .0)
+          (acted-done (update p c) s b [] (o .formed) (passes-append (bringRows p c) (ownLiveRows s (openModel b) (stepsOf p)) (brought-passes p c f y) own-live) refl
+          (h
+          ∙ ap (λ (l : List ℕ). replace s (layout (added (stepsOf p) c (ownSet s (openModel l)))) l) (g .1)
+          ∙ ap (λ (es : List Element). replace s (layout (added (stepsOf p) c es)) (replace s (layout left) b)) left-set
+          ∙ replace-twice s (layout (added (stepsOf p) c left)) (layout left) b own-partition (length-layout left)) refl)

@@ -1,5 +1,2 @@
--- Laws of the calls, for the proofs here and in the crates above.
-pub mod Walking
+-- Laws of the calls.
 pub mod Doing
-pub mod Runs
-pub mod Seeing

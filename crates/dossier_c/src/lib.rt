@@ -1,9 +1,5 @@
 // The calls as C functions. A slice is passed as a pointer and a length; the result is returned by value.
-ghost use mathlib.Core.List.{[]};
-ghost use lib.ListN.{length};
-ghost use Rattle.model.specs.Call as calls;
-ghost use Rattle.dossier.specs.Did.{Did};
-ghost use Rattle.dossier.specs.Rows.{by};
+ghost use Rattle.promise.specs.Did.{Viewed, Inserted, Updated, Deleted};
 
 // What a call answers: 0 or the number of its refusal, and its count.
 #[repr(C)]
@@ -15,7 +11,7 @@ pub struct Answer {
 // Lists the path and everything in the subject's view below it into the output: how many bytes were written.
 #[no_mangle]
 pub extern "C" fn dossier_view(store: &[u8], subject: u32, path: &[u8], output: &mut [u8]) -> Answer
-    ensures { λ r. ⌜ Did (by subject (calls.view (now (path .entry)) (length (now (output .entry))))) (now (store .entry)) (now (output .entry)) (r .number) (r .count) (now (store .entry)) (now (output .exit)) ⌝ }
+    ensures { λ r. ⌜ Viewed subject (now (path .entry)) (now (store .entry)) (now (output .entry)) (r .number) (r .count) (now (output .exit)) ⌝ }
 {
     let done = dossier::view(store, subject, path, output);
     Answer {
@@ -33,7 +29,7 @@ pub extern "C" fn dossier_insert(
     kind: u32,
     value: &[u8],
 ) -> Answer
-    ensures { λ r. ⌜ Did (by subject (calls.insert (now (path .entry)) (record { kind = kind; value = now (value .entry) }))) (now (store .entry)) [] (r .number) (r .count) (now (store .exit)) [] ⌝ }
+    ensures { λ r. ⌜ Inserted subject (now (path .entry)) kind (now (value .entry)) (now (store .entry)) (r .number) (r .count) (now (store .exit)) ⌝ }
 {
     let done = dossier::insert(store, subject, path, kind, value);
     Answer {
@@ -51,7 +47,7 @@ pub extern "C" fn dossier_update(
     kind: u32,
     value: &[u8],
 ) -> Answer
-    ensures { λ r. ⌜ Did (by subject (calls.update (now (path .entry)) (record { kind = kind; value = now (value .entry) }))) (now (store .entry)) [] (r .number) (r .count) (now (store .exit)) [] ⌝ }
+    ensures { λ r. ⌜ Updated subject (now (path .entry)) kind (now (value .entry)) (now (store .entry)) (r .number) (r .count) (now (store .exit)) ⌝ }
 {
     let done = dossier::update(store, subject, path, kind, value);
     Answer {
@@ -63,7 +59,7 @@ pub extern "C" fn dossier_update(
 // Deletes the path and all of the subject's label that extends it: how many elements went.
 #[no_mangle]
 pub extern "C" fn dossier_delete(store: &mut [u8], subject: u32, path: &[u8]) -> Answer
-    ensures { λ r. ⌜ Did (by subject (calls.delete (now (path .entry)))) (now (store .entry)) [] (r .number) (r .count) (now (store .exit)) [] ⌝ }
+    ensures { λ r. ⌜ Deleted subject (now (path .entry)) (now (store .entry)) (r .number) (r .count) (now (store .exit)) ⌝ }
 {
     let gone = dossier::delete(store, subject, path);
     Answer {

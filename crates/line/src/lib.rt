@@ -1,7 +1,7 @@
 // The lines of a printed view put into an output from a place on, as `text` puts bytes and numbers.
 ghost use mathlib.Core.Option.{none, some};
 ghost use mathlib.Core.List.{[], _∷_, _++_};
-ghost use Prim.Native.Nat.{_+_, _≤_, _<_};
+ghost use Prim.Native.Nat.{_+_, _<_};
 ghost use lib.Dec.{T};
 ghost use Rattle.model.specs.Value.{allowed};
 ghost use Rattle.model.specs.View.{letter, shown, headLine};
@@ -12,7 +12,6 @@ ghost use Rattle.line.specs.Line.{lineOf, numberField, lineStart};
 fn put_field(out: &mut [u8], at: usize, n: u32) -> usize
     requires { ⌜ at + 11 < 4294967296 ⌝ }
     ensures { λ r. ⌜ Wrote (now (out .entry)) at (numberField n) (now (out .exit)) r ⌝ }
-    ensures { λ r. ⌜ r ≤ at + 11 ⌝ }
 {
     let end = text::put_decimal(out, at, n);
     text::put_byte(out, end, b'\t')
@@ -22,7 +21,6 @@ fn put_field(out: &mut [u8], at: usize, n: u32) -> usize
 fn put_start(out: &mut [u8], at: usize, depth: u32, name: u32, label: u32) -> usize
     requires { ⌜ at + 33 < 4294967296 ⌝ }
     ensures { λ r. ⌜ Wrote (now (out .entry)) at (lineStart depth (record { name = name; label = label })) (now (out .exit)) r ⌝ }
-    ensures { λ r. ⌜ r ≤ at + 33 ⌝ }
 {
     let second = put_field(out, at, depth);
     let third = put_field(out, second, name);
@@ -33,7 +31,6 @@ fn put_start(out: &mut [u8], at: usize, depth: u32, name: u32, label: u32) -> us
 pub fn put_removed(out: &mut [u8], at: usize, depth: u32, name: u32, label: u32) -> usize
     requires { ⌜ at + 64 < 4294967296 ⌝ }
     ensures { λ r. ⌜ Wrote (now (out .entry)) at (lineOf depth (record { name = name; label = label }) none) (now (out .exit)) r ⌝ }
-    ensures { λ r. ⌜ r ≤ at + 64 ⌝ }
 {
     let mark = put_start(out, at, depth, name, label);
     text::put_bytes(out, mark, b"R\t-\t-\n")
@@ -44,7 +41,6 @@ fn put_content(out: &mut [u8], at: usize, kind: u8, value: &[u8]) -> usize
     requires { ⌜ at + 19 < 4294967296 ⌝ }
     requires { ⌜ T (allowed kind (now value)) ⌝ }
     ensures { λ r. ⌜ Wrote (now (out .entry)) at (letter kind ++ (9 ∷ (shown kind (now (value .entry)) ++ (10 ∷ [])))) (now (out .exit)) r ⌝ }
-    ensures { λ r. ⌜ r ≤ at + 19 ⌝ }
 {
     let tab = text::put_byte(out, at, kind::letter_of(octets::wide(kind)));
     let shown = text::put_byte(out, tab, b'\t');
@@ -65,7 +61,6 @@ pub fn put_live(
     requires { ⌜ at + 64 < 4294967296 ⌝ }
     requires { ⌜ T (allowed kind (now value)) ⌝ }
     ensures { λ r. ⌜ Wrote (now (out .entry)) at (lineOf depth (record { name = name; label = label }) (some (record { kind = kind; value = now (value .entry) }))) (now (out .exit)) r ⌝ }
-    ensures { λ r. ⌜ r ≤ at + 64 ⌝ }
 {
     let mark = put_start(out, at, depth, name, label);
     let letter = text::put_bytes(out, mark, b"P\t");
@@ -76,7 +71,6 @@ pub fn put_live(
 pub fn put_head(out: &mut [u8], at: usize, subject: u32, lines: u32) -> usize
     requires { ⌜ at + 64 < 4294967296 ⌝ }
     ensures { λ r. ⌜ Wrote (now (out .entry)) at (headLine subject lines) (now (out .exit)) r ⌝ }
-    ensures { λ r. ⌜ r ≤ at + 64 ⌝ }
 {
     let first = text::put_bytes(out, at, b"VIEW\t");
     let second = put_field(out, first, subject);

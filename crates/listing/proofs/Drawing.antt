@@ -1,27 +1,32 @@
--- The lines of a slot's element: the removed prefixes of its path, and its own.
-use mathlib.Core.Path.{_≡_, refl, sym, ap, ap₂, _∙_}
+-- The lines of a slot's element: the removed prefixes of its path, and its own; none has more than 64 bytes.
+use mathlib.Core.Path.{_≡_, refl, sym, ap, ap₂, subst, _∙_}
 use mathlib.Core.Bool.{true, _&&_}
 use mathlib.Core.Option.{Option, none, some}
 use mathlib.Core.List.{List, [], _∷_, _++_}
-use Prim.Native.Nat.{ℕ, suc, _+_, _-_, _≤_, _<_}
+use Prim.Native.Nat.{ℕ, zero, suc, _+_, _-_, _*_, _≤_, _<_}
 use native.Mathlib.Omega.{arith}
 use native.Mathlib.Numerals.{add-one}
-use lib.ListN.{length, take, drop-of-length-le}
+use lib.ListN.{length, take, drop, length-append, drop-of-length-le}
 use lib.Seq.{length-take-le, take-all}
 use lib.Dec.{T}
+use mir.Syntax.{w32}
+use mir.Val.{Fits}
 use mir.Facts.{leb-yes, not-T}
-use Rattle.model.specs.Lists.{gather}
-use Rattle.model.specs.Path.{Step, samePath, prefixes, lastStep, endsIn, validPath}
+use Rattle.model.specs.Lists.{all, gather}
+use Rattle.model.specs.Path.{Step, samePath, prefixes, lastStep, endsIn, validStep, validPath}
 use Rattle.model.specs.Value.{Content, allowed, storable}
 use Rattle.model.specs.Element.{Element, validElement}
 use Rattle.model.specs.Slot.{depth, stepAt, valueLength, readPath, readContent, readSlot}
 use Rattle.model.specs.View.{contentAt, pathLine}
 use Rattle.model.proofs.Lists.{take-range}
 use Rattle.model.proofs.Bools.{and-l, and-r, cond-yes, cond-no, is-true}
+use Rattle.model.proofs.Dominance.{label-lt}
 use Rattle.model.proofs.Paths.{same-eq, same-refl}
+use Rattle.model.proofs.Slots.{valid-fits}
 use Rattle.path.proofs.Steps.{last-range}
 use Rattle.slot.proofs.Reading.{length-path, short-steps, short-value}
 use Rattle.line.specs.Line.{lineOf}
+use Rattle.line.proofs.Widths.{line-short}
 use Rattle.listing.specs.Used.{Used, linesFrom}
 use Rattle.listing.proofs.Newer.{prefix-at, length-prefixes}
 
@@ -120,3 +125,40 @@ lines-last b d h =
     lines-more b d (omega arith)
     ∙ ap₂ (λ (x : List Step) (y : List (List Step)). pathLine (readSlot b ∷ []) x ++ gather (pathLine (readSlot b ∷ [])) y)
     (take-all (d + 1) (readPath b) (omega arith)) (drop-of-length-le (prefixes (readPath b)) {i = d + 1} (omega arith))
+
+-- ---- how long they are
+
+-- the last of the first d + 1 of valid steps
+last-valid : (q : List Step) (d : ℕ) → d < length q → T (all validStep q)
+    → (a : Step) × (lastStep (take (suc d) q) ≡ some a) × Fits w32 (a .name) × Fits w32 (a .label)
+unfolding validStep
+last-valid [] d h t = absurd (omega arith)
+last-valid (a ∷ q) zero h t =
+    let n : a .name ≤ 65535 = leb-yes (search (and-l, and-r)) in
+    let l : a .label < 32 = label-lt (a .label) (search (and-l, and-r)) in
+    (a, refl, record { fits = omega arith }, record { fits = omega arith })
+last-valid (a ∷ []) (suc d) h t = absurd (omega arith)
+last-valid (a ∷ b ∷ q) (suc d) h t = last-valid (b ∷ q) d (omega arith) (and-r (validStep a) (all validStep (b ∷ q)) t)
+
+module _ (n : ℕ) (e : Element) (valid : T (validElement n e)) where
+  -- the line of the first d + 1 steps
+  path-short : (d : ℕ) → d < length (e .path) → length (pathLine (e ∷ []) (take (suc d) (e .path))) ≤ 64
+  unfolding validElement validPath
+  path-short d h =
+      let p : List Step = take (suc d) (e .path) in
+      let a = last-valid (e .path) d h (search (and-l, and-r)) in
+      let k : Fits w32 (length p) = record { fits = omega (arith, length-take-le (suc d) (e .path) h, valid-fits n e valid .steps) } in
+      let c : T (storable (e .content)) = search (and-l, and-r) in
+      subst (λ (l : List ℕ). length l ≤ 64) (path-line e p refl (a .1) refl) (line-short k (a .2) (a .3) (samePath p (e .path)) (e .content) c)
+
+  -- the lines of the prefixes with more than d steps, k of them
+  pub lines-short : (k d : ℕ) → k ≡ length (e .path) - d → length (gather (pathLine (e ∷ [])) (drop d (prefixes (e .path)))) ≤ 64 * k
+  lines-short zero d h = rw (drop-of-length-le (prefixes (e .path)) {i = d} (omega (arith, length-prefixes (e .path)))) (omega arith)
+  lines-short (suc k) d h =
+      rw (prefix-at d (e .path) (omega arith))
+      (rw length-append (omega (arith, path-short d (omega arith), lines-short k (suc d) (omega arith))))
+
+-- the same of a slot
+pub above-short : {b : List ℕ} (used : Used b) (d : ℕ) → d < depth b → length (pathLine (readSlot b ∷ []) (take (d + 1) (readPath b))) ≤ 64
+unfolding readSlot
+above-short {b} used d h = rw (add-one d) (path-short (used .label) (readSlot b) (used .valid) d (omega (arith, length-path b)))

@@ -9,11 +9,11 @@ use lib.ListN.{length, take, drop, length-drop}
 use lib.Seq.{drop-nil}
 use lib.Dec.{T}
 use mir.Facts.{eqb-yes}
-use Rattle.model.specs.Lists.{keep}
+use Rattle.model.specs.Lists.{keep, _∈_}
 use Rattle.model.specs.Sets.{precedes}
 use Rattle.model.specs.Path.{Step, sameStep, isPrefix, prefixes, parent, key, pathRank}
 use Rattle.model.proofs.Bools.{and-r, decide, cond-yes, cond-no, is-true, is-false}
-use Rattle.model.proofs.Members.{_∈_, map-in}
+use Rattle.model.proofs.Members.{map-in}
 use Rattle.model.proofs.Order.{precedes-cancel}
 use Rattle.model.proofs.Paths.{step-eq, step-refl, prefix-trans, prefixes-in, key-keyed, prefix-first, parent-prefix}
 use Rattle.path.specs.Common.{common}
@@ -179,9 +179,6 @@ module _ (p q : List Step) (t : T (isPrefix p q)) where
       let l : length (parent p) ≡ length p - 1 = length-parent p in
       let k : length p ≤ length q = prefix-length p q t in
       omega arith
-
-  pub parent-new : 1 ≤ length q → common (parent p) q < length q
-  parent-new h = rw parent-common (parent-shorter h)
 
   pub parent-first : 1 ≤ length q → T (precedes (pathRank (parent p)) (pathRank q))
   parent-first h =

@@ -8,19 +8,18 @@ use Prim.Native.Nat.{ℕ}
 use lib.ListN.{length}
 use lib.Dec.{T}
 use mir.Facts.{T-not, not-T}
-use Rattle.model.specs.Lists.{gather}
-use Rattle.model.specs.Sets.{sort}
+use Rattle.model.specs.Lists.{gather, _∈_}
 use Rattle.model.specs.Path.{Step, samePath, parent, lastStep}
 use Rattle.model.specs.Value.{Content}
-use Rattle.model.specs.Element.{Element, rank, contains}
+use Rattle.model.specs.Element.{Element, contains}
 use Rattle.model.specs.Text.{decimal, line}
-use Rattle.model.specs.View.{listed, contentAt, contentFields, stepFields, pathLine}
+use Rattle.model.specs.View.{listed, contentAt, contentFields, stepFields, pathLine, below}
 use Rattle.model.proofs.Bools.{decide, cond-yes, cond-no}
-use Rattle.model.proofs.Members.{_∈_, gather-append, gather-ext}
+use Rattle.model.proofs.Members.{gather-append, gather-ext}
 use Rattle.model.proofs.Paths.{same-eq, same-refl}
 use Rattle.model.proofs.Sets.{contains-in}
 use Rattle.model.proofs.Marks.{content-none}
-use Rattle.listing.specs.Walk.{newer, walk, walkLines, under}
+use Rattle.listing.specs.Walk.{newer, walk, walkLines}
 use Rattle.listing.proofs.Walks.{Distinct, Rest, rest-start, rest-next, new-only, walk-listed}
 
 -- ---- the content at a path that no element has but e
@@ -73,6 +72,6 @@ module _ {v : List Element} {p : List Step} where
 
 -- the lines of the view at p
 pub walk-printed : (v : List Element) (p : List Step) → Distinct v
-    → gather (pathLine v) (listed v p) ≡ walkLines (parent p) (sort rank (under p v))
+    → gather (pathLine v) (listed v p) ≡ walkLines (parent p) (below p v)
 walk-printed v p d =
-    ap (gather (pathLine v)) (walk-listed v p d) ∙ rest-printed (parent p) (sort rank (under p v)) (rest-start p d)
+    ap (gather (pathLine v)) (walk-listed v p d) ∙ rest-printed (parent p) (below p v) (rest-start p d)

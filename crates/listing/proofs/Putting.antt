@@ -8,21 +8,21 @@ use lib.Dec.{leb}
 use mir.Facts.{yes-leb, no-leb}
 use Rattle.model.specs.Path.{Step, parent}
 use Rattle.model.specs.Model.{openModel}
-use Rattle.model.specs.View.{headLine, listing}
+use Rattle.model.specs.View.{headLine, listing, seenBelow}
 use Rattle.model.proofs.Bools.{cond-yes, cond-no}
 use Rattle.text.specs.Overlay.{Wrote}
 use Rattle.text.proofs.Overlays.{over-room}
-use Rattle.order.specs.Refs.{Refers, ordered}
+use Rattle.order.specs.Refs.{Refers}
 use Rattle.listing.specs.Walk.{walk, walkLines}
 use Rattle.listing.specs.Listed.{laidIn}
 use Rattle.listing.proofs.Visible.{listing-walk}
 
 module _ (s : ℕ) (b : List ℕ) (p : List Step) where
   -- the head and the lines
-  pub head-lines : {n k : ℕ} → n ≡ length (walk (parent p) (ordered s b p)) → (k ≡ s) × (k < 256)
-      → headLine k n ++ walkLines (parent p) (ordered s b p) ≡ listing s (openModel b) p
+  pub head-lines : {n k : ℕ} → n ≡ length (walk (parent p) (seenBelow s (openModel b) p)) → (k ≡ s) × (k < 256)
+      → headLine k n ++ walkLines (parent p) (seenBelow s (openModel b) p) ≡ listing s (openModel b) p
   head-lines c f =
-      ap₂ (λ (i j : ℕ). headLine i j ++ walkLines (parent p) (ordered s b p)) (f .0) c
+      ap₂ (λ (i j : ℕ). headLine i j ++ walkLines (parent p) (seenBelow s (openModel b) p)) (f .0) c
       ∙ sym (listing-walk s b p)
 
 module _ (w o : List ℕ) where
@@ -51,8 +51,8 @@ whole-length i = omega (arith, i .ends)
 
 -- ---- the references behind the first n are not used
 
-pub first-refs : {s : ℕ} {b : List ℕ} (p : List Step) (n : ℕ) (rs : List ℕ) → n ≤ 1024 → Refers s b (take n rs) (ordered s b p)
-    → (length (take (n - 0) rs) ≤ 1024) × Refers s b (take (n - 0) rs) (ordered s b p)
+pub first-refs : {s : ℕ} {b : List ℕ} (p : List Step) (n : ℕ) (rs : List ℕ) → n ≤ 1024 → Refers s b (take n rs) (seenBelow s (openModel b) p)
+    → (length (take (n - 0) rs) ≤ 1024) × Refers s b (take (n - 0) rs) (seenBelow s (openModel b) p)
 first-refs p n rs h r =
     let z : n - 0 ≡ n = omega arith in
     let l : length (take n rs) ≡ min n (length rs) = length-take n rs in

@@ -6,11 +6,11 @@ use Prim.Native.Nat.{_≤_}
 use native.Mathlib.Omega.{arith}
 use lib.ListN.{length}
 use lib.Dec.{T}
-use Rattle.model.specs.Sets.{precedes}
+use Rattle.model.specs.Sets.{precedes, isBefore, ahead, sorted}
 use Rattle.model.specs.Path.{Step, sameStep, prefixes, key, pathRank}
 use Rattle.model.proofs.Bools.{and-l, and-r, both}
 use Rattle.model.proofs.Members.{all-in, in-all, map-in}
-use Rattle.model.proofs.Order.{precedes-cancel, isBefore, ahead, sorted}
+use Rattle.model.proofs.Order.{precedes-cancel}
 use Rattle.model.proofs.Paths.{step-refl, key-keyed, prefix-first}
 use Rattle.listing.proofs.Newer.{prefixes-filled}
 

@@ -7,14 +7,14 @@ use Prim.Native.Nat.{ℕ, _+_, _-_, _≤_, _<_}
 use lib.ListN.{length, length-append}
 use lib.Dec.{T}
 use mir.Facts.{T-not, not-T}
-use Rattle.model.specs.Lists.{keep, gather}
-use Rattle.model.specs.Sets.{precedes, sort}
+use Rattle.model.specs.Lists.{keep, gather, _∈_}
+use Rattle.model.specs.Sets.{precedes, sort, isBefore, ahead, sorted}
 use Rattle.model.specs.Path.{Step, sameStep, samePath, isPrefix, prefixes, parent, key, pathRank}
 use Rattle.model.specs.Element.{Element, rank}
-use Rattle.model.specs.View.{listed}
+use Rattle.model.specs.View.{listed, below}
 use Rattle.model.proofs.Bools.{and-l, and-r, both, decide}
-use Rattle.model.proofs.Members.{_∈_, in-front, in-back, all-in, keep-in, in-keep, gather-in, in-gather}
-use Rattle.model.proofs.Order.{precedes-trans, precedes-irrefl, isBefore, ahead, sorted, sorted-keep, sorted-sort, sorted-unique, sort-in, in-sort, in-sort-members, sorted-append}
+use Rattle.model.proofs.Members.{in-front, in-back, all-in, keep-in, in-keep, gather-in, in-gather}
+use Rattle.model.proofs.Order.{precedes-trans, precedes-irrefl, sorted-keep, sorted-sort, sorted-unique, sort-in, in-sort, in-sort-members, sorted-append}
 use Rattle.model.proofs.Paths.{step-eq, same-eq, same-refl, prefix-refl, prefix-trans, prefix-parent, in-prefixes, key-keyed, keys-injective, prefix-first, between-extends}
 use Rattle.path.specs.Common.{common}
 use Rattle.listing.specs.Walk.{newer, walk, under}
@@ -73,7 +73,7 @@ pub record Rest (v : List Element) (p r : List Step) (es : List Element) : Type 
   pub start : (x : List Step) → T (isPrefix x p) → (x ≡ p) ⊎ T (isPrefix x r)
 
 -- at the beginning
-pub rest-start : {v : List Element} (p : List Step) → Distinct v → Rest v p (parent p) (sort rank (under p v))
+pub rest-start : {v : List Element} (p : List Step) → Distinct v → Rest v p (parent p) (below p v)
 rest-start {v} p d =
     record {
       rises = sorted-sort rank (under p v);
@@ -84,7 +84,7 @@ rest-start {v} p d =
       start = λ x t. prefix-parent x p t;
     }
   where
-    at : (e : Element) → e ∈ sort rank (under p v) → (e ∈ v) × T (isPrefix p (e .path))
+    at : (e : Element) → e ∈ below p v → (e ∈ v) × T (isPrefix p (e .path))
     at e m = keep-in (λ c. isPrefix p (c .path)) v (sort-in rank (under p v) m)
 
     one-rank : (x y : Element) → x ∈ under p v → y ∈ under p v → rank x ≡ rank y → x ≡ y
@@ -216,7 +216,7 @@ in-walk r (c ∷ es) x e m b d =
     go h (inr k) g = g k
 
 -- the walk after the parent of p lists what the view at p lists
-pub walk-listed : (v : List Element) (p : List Step) → Distinct v → listed v p ≡ walk (parent p) (sort rank (under p v))
+pub walk-listed : (v : List Element) (p : List Step) → Distinct v → listed v p ≡ walk (parent p) (below p v)
 unfolding listed
 walk-listed v p d =
     sorted-unique pathRank (sort pathRank (keep (isPrefix p) all)) (walk (parent p) es)
@@ -228,7 +228,7 @@ walk-listed v p d =
     all = gather (λ e. prefixes (e .path)) v
 
     es : List Element
-    es = sort rank (under p v)
+    es = below p v
 
     f : Rest v p (parent p) es
     f = rest-start p d

@@ -2,22 +2,22 @@
 mod lines;
 
 ghost use mathlib.Core.Path.{_≡_};
-ghost use Prim.Native.Nat.{_+_, _*_, _<_, _≤_};
+ghost use Prim.Native.Nat.{_<_, _≤_};
 ghost use lib.ListN.{length, getD};
 ghost use Rattle.model.specs.Path.{stepsOf, parent};
 ghost use Rattle.model.specs.Model.{openModel};
-ghost use Rattle.model.specs.View.{listing};
+ghost use Rattle.model.specs.View.{listing, seenBelow};
 ghost use Rattle.path.specs.Common.{common};
 ghost use Rattle.text.specs.Overlay.{Wrote};
 ghost use Rattle.store.specs.Opened.{Opened};
-ghost use Rattle.order.specs.Refs.{elementOf, Refers, ordered};
+ghost use Rattle.order.specs.Refs.{elementOf, Refers};
 ghost use Rattle.listing.specs.Walk.{walk, walkLines};
 ghost use Rattle.listing.specs.Listed.{pathAbove, laidIn};
 
 // How many steps the path of reference i shares with the path before it.
 fn shared_above(store: &[u8], subject: u8, path: &[u8], refs: &[u16], i: usize) -> usize
     requires { ⌜ Opened (now store) subject × (i < length (now refs)) ⌝ }
-    requires { ⌜ Refers subject (now store) (now refs) (ordered subject (now store) (stepsOf (now path))) ⌝ }
+    requires { ⌜ Refers subject (now store) (now refs) (seenBelow subject (openModel (now store)) (stepsOf (now path))) ⌝ }
     ensures { λ r. ⌜ r ≡ common (pathAbove (now (store .entry)) (stepsOf (now (path .entry))) (now (refs .entry)) i) (elementOf (now (store .entry)) (getD (now (refs .entry)) i 0) .path) ⌝ }
 {
     if i == 0 {
@@ -35,8 +35,8 @@ fn shared_above(store: &[u8], subject: u8, path: &[u8], refs: &[u16], i: usize) 
 // How many lines the elements have that the references name, each with the removed ones above it.
 fn count_lines(store: &[u8], subject: u8, path: &[u8], refs: &[u16]) -> usize
     requires { ⌜ Opened (now store) subject × (length (now refs) ≤ 1024) ⌝ }
-    requires { ⌜ Refers subject (now store) (now refs) (ordered subject (now store) (stepsOf (now path))) ⌝ }
-    ensures { λ r. ⌜ r ≡ length (walk (parent (stepsOf (now (path .entry)))) (ordered subject (now (store .entry)) (stepsOf (now (path .entry))))) ⌝ }
+    requires { ⌜ Refers subject (now store) (now refs) (seenBelow subject (openModel (now store)) (stepsOf (now path))) ⌝ }
+    ensures { λ r. ⌜ r ≡ length (walk (parent (stepsOf (now (path .entry)))) (seenBelow subject (openModel (now (store .entry))) (stepsOf (now (path .entry))))) ⌝ }
     ensures { λ r. ⌜ r ≤ 6144 ⌝ }
 {
     let mut lines: usize = 0;
@@ -60,9 +60,8 @@ fn put_walk(
     at: usize,
 ) -> usize
     requires { ⌜ Opened (now store) subject × (at ≤ 64) × (length (now refs) ≤ 1024) ⌝ }
-    requires { ⌜ Refers subject (now store) (now refs) (ordered subject (now store) (stepsOf (now path))) ⌝ }
-    ensures { λ r. ⌜ Wrote (now (out .entry)) at (walkLines (parent (stepsOf (now (path .entry)))) (ordered subject (now (store .entry)) (stepsOf (now (path .entry))))) (now (out .exit)) r ⌝ }
-    ensures { λ r. ⌜ r ≤ at + 64 * length (walk (parent (stepsOf (now (path .entry)))) (ordered subject (now (store .entry)) (stepsOf (now (path .entry))))) ⌝ }
+    requires { ⌜ Refers subject (now store) (now refs) (seenBelow subject (openModel (now store)) (stepsOf (now path))) ⌝ }
+    ensures { λ r. ⌜ Wrote (now (out .entry)) at (walkLines (parent (stepsOf (now (path .entry)))) (seenBelow subject (openModel (now (store .entry))) (stepsOf (now (path .entry))))) (now (out .exit)) r ⌝ }
 {
     let mut to: usize = at;
     let mut i: usize = 0;
@@ -85,10 +84,9 @@ fn put_all(
     out: &mut [u8],
 ) -> usize
     requires { ⌜ Opened (now store) subject × (length (now refs) ≤ 1024) ⌝ }
-    requires { ⌜ Refers subject (now store) (now refs) (ordered subject (now store) (stepsOf (now path))) ⌝ }
-    requires { ⌜ count ≡ length (walk (parent (stepsOf (now path))) (ordered subject (now store) (stepsOf (now path)))) ⌝ }
+    requires { ⌜ Refers subject (now store) (now refs) (seenBelow subject (openModel (now store)) (stepsOf (now path))) ⌝ }
+    requires { ⌜ count ≡ length (walk (parent (stepsOf (now path))) (seenBelow subject (openModel (now store)) (stepsOf (now path)))) ⌝ }
     ensures { λ r. ⌜ Wrote (now (out .entry)) 0 (listing subject (openModel (now (store .entry))) (stepsOf (now (path .entry)))) (now (out .exit)) r ⌝ }
-    ensures { λ r. ⌜ r ≤ 64 * count + 64 ⌝ }
 {
     let at = line::put_head(out, 0, octets::wide(subject), count);
     put_walk(store, subject, path, refs, out, at)
@@ -97,8 +95,8 @@ fn put_all(
 // The listing's length: a dry run, in which nothing is written.
 fn measure(store: &[u8], subject: u8, path: &[u8], refs: &[u16], count: u32) -> usize
     requires { ⌜ Opened (now store) subject × (length (now refs) ≤ 1024) ⌝ }
-    requires { ⌜ Refers subject (now store) (now refs) (ordered subject (now store) (stepsOf (now path))) ⌝ }
-    requires { ⌜ count ≡ length (walk (parent (stepsOf (now path))) (ordered subject (now store) (stepsOf (now path)))) ⌝ }
+    requires { ⌜ Refers subject (now store) (now refs) (seenBelow subject (openModel (now store)) (stepsOf (now path))) ⌝ }
+    requires { ⌜ count ≡ length (walk (parent (stepsOf (now path))) (seenBelow subject (openModel (now store)) (stepsOf (now path)))) ⌝ }
     ensures { λ r. ⌜ r ≡ length (listing subject (openModel (now (store .entry))) (stepsOf (now (path .entry)))) ⌝ }
 {
     let mut none = [0u8; 0];
@@ -109,7 +107,7 @@ fn measure(store: &[u8], subject: u8, path: &[u8], refs: &[u16], count: u32) -> 
 // for so many lines of any length.
 fn put_listing(store: &[u8], subject: u8, path: &[u8], refs: &[u16], out: &mut [u8]) -> usize
     requires { ⌜ Opened (now store) subject × (length (now refs) ≤ 1024) ⌝ }
-    requires { ⌜ Refers subject (now store) (now refs) (ordered subject (now store) (stepsOf (now path))) ⌝ }
+    requires { ⌜ Refers subject (now store) (now refs) (seenBelow subject (openModel (now store)) (stepsOf (now path))) ⌝ }
     ensures { λ r. ⌜ r ≡ length (listing subject (openModel (now (store .entry))) (stepsOf (now (path .entry)))) ⌝ }
     ensures { λ r. ⌜ now (out .exit) ≡ laidIn (listing subject (openModel (now (store .entry))) (stepsOf (now (path .entry)))) (now (out .entry)) ⌝ }
 {

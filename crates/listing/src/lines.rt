@@ -1,7 +1,7 @@
 // The lines that a slot's element has in a listing.
 ghost use mathlib.Core.Path.{_≡_};
 ghost use mathlib.Core.List.{[], _∷_};
-ghost use Prim.Native.Nat.{_+_, _-_, _*_, _<_, _≤_};
+ghost use Prim.Native.Nat.{_+_, _<_, _≤_};
 ghost use lib.ListN.{take};
 ghost use Rattle.model.specs.Slot.{depth, readPath, readSlot};
 ghost use Rattle.model.specs.View.{pathLine};
@@ -21,7 +21,6 @@ fn put_above(out: &mut [u8], at: usize, slot: &[u8], d: usize) -> usize
     requires { ⌜ (at + 64 < 4294967296) × (d + 1 < depth (now slot)) ⌝ }
     requires { ⌜ Used (now slot) ⌝ }
     ensures { λ r. ⌜ Wrote (now (out .entry)) at (pathLine (readSlot (now (slot .entry)) ∷ []) (take (d + 1) (readPath (now (slot .entry))))) (now (out .exit)) r ⌝ }
-    ensures { λ r. ⌜ r ≤ at + 64 ⌝ }
 {
     let name = slot::step_name(slot, d);
     let label = octets::wide(slot::step_label(slot, d));
@@ -33,7 +32,6 @@ fn put_own(out: &mut [u8], at: usize, slot: &[u8]) -> usize
     requires { ⌜ at + 64 < 4294967296 ⌝ }
     requires { ⌜ Used (now slot) ⌝ }
     ensures { λ r. ⌜ Wrote (now (out .entry)) at (pathLine (readSlot (now (slot .entry)) ∷ []) (readPath (now (slot .entry)))) (now (out .exit)) r ⌝ }
-    ensures { λ r. ⌜ r ≤ at + 64 ⌝ }
 {
     let depth = slot::depth(slot);
     let name = slot::step_name(slot, depth - 1);
@@ -48,7 +46,6 @@ pub fn put_element(out: &mut [u8], at: usize, slot: &[u8], from: usize) -> usize
     requires { ⌜ (at + 384 < 4294967296) × (from < depth (now slot)) ⌝ }
     requires { ⌜ Used (now slot) ⌝ }
     ensures { λ r. ⌜ Wrote (now (out .entry)) at (linesFrom from (now (slot .entry))) (now (out .exit)) r ⌝ }
-    ensures { λ r. ⌜ r ≤ at + 64 * (depth (now (slot .entry)) - from) ⌝ }
 {
     let depth = slot::depth(slot);
     let mut d: usize = from;

@@ -7,34 +7,37 @@ use Prim.Native.Nat.{ℕ}
 use lib.Dec.{T, eqb}
 use mir.Facts.{eqb-yes}
 use Rattle.model.specs.Lists
-use Rattle.model.specs.Lists.{all, isByte, pad}
+use Rattle.model.specs.Lists.{all, isByte, pad, _∈_}
 use Rattle.model.specs.Label.{isLabel, level, sizing, fabric, cost, includes, dominates}
 use Rattle.model.specs.Path.{sameStep, validStep, validPath, key}
 use Rattle.model.specs.Value.{isPrintable, allowed, storable, bringable}
 use Rattle.model.specs.Element.{validElement, contains, closed, remove}
 use Rattle.model.specs.Slot.{pathBytes, contentBytes, slotBytes, readPath, readContent, readSlot, unusedZero}
-use Rattle.model.specs.Partition.{partitionSize, layout, count, slots, readPartition, wellFormedBy}
+use Rattle.model.specs.Partition.{partitionSize, layout, slots, readPartition, wellFormedBy}
 use Rattle.model.specs.Store.{emptyStore, hasPartition, partition, replace}
 use Rattle.model.specs.Model.{isHeld, elements, openCell, cellBytes, Model, openModel, ownSet, live}
-use Rattle.model.specs.Text.{ascii, decimal, measureOf, signed}
+use Rattle.model.specs.Text.{ascii, decimal, measureOf, signed, isDigit}
 use Rattle.model.specs.View.{visible, inView, listed, letter, shown, pathLine, headLine, listingOf, listing}
-use Rattle.model.specs.Call.{subjectOf, goodPath, someRaw, callerRows, opRows, table, refusal, Answer, Outcome, refused, done, extending, added, effect, outcome, after}
+use Rattle.model.specs.Rows.{refusal, someRaw, goodPath, viewPath}
+use Rattle.model.specs.Call.{subjectOf, callerRows, opRows, table, Result, count as counts, Answer, Outcome, writes, changes, extending, added, effect, refused, done, outcome, after}
 use Rattle.model.specs.Run.{answerOf, storeAfter, corrupted, feed}
 use Rattle.model.specs.Script.{ScriptCall, stepText, callText, inRange, callOf, linesOf, unreadLine, answerLines, output}
 use Rattle.model.specs.Cases.{Expected, holds, Case, dominance, onStore, calls, script, storeAfterAll, AllHeld, Holds, markedCases, furtherCases, cases}
 use Rattle.model.proofs.Bools.{and-l, and-r, is-true, is-false}
 use Rattle.model.proofs.Lists.{sameBytes, sameBytes-eq}
-use Rattle.model.proofs.Members.{_∈_, all-in}
+use Rattle.model.proofs.Members.{all-in}
 use Rattle.model.proofs.Dominance.{top-label}
 use Rattle.model.proofs.Noninterference.{Agree, open-bytes, same-outcome, agree-seen, call-lawful}
-use Rattle.model.proofs.Decimal.{isDigit}
 use Rattle.model.proofs.Script.{stepGuess, callGuess, readable, readLine, prints-all}
 use Rattle.model.proofs.Empty.{emptyModel, all-remain, agree-empty}
 
 -- ---- a row as a test, of the model
 
+sameResult : Result → Result → Bool
+sameResult (counts m) (counts n) = eqb m n
+
 sameAnswer : Answer → Answer → Bool
-sameAnswer a b = eqb (a .number) (b .number) && eqb (a .count) (b .count) && sameBytes (a .written) (b .written)
+sameAnswer a b = eqb (a .told .number) (b .told .number) && sameResult (a .told .result) (b .told .result) && sameBytes (a .written) (b .written)
 
 abbrev heldTest : Model → List Expected → Bool
 heldTest m [] = true
@@ -55,13 +58,17 @@ caseTest (script i o) = sameBytes (ascii o) (modelOutput (map readLine (linesOf 
 
 -- ---- a row that passes holds of the bytes
 
+same-result : (a b : Result) → T (sameResult a b) → a ≡ b
+unfolding sameResult
+same-result (counts m) (counts n) t = ap counts (eqb-yes t)
+
 same-answer : (a b : Answer) → T (sameAnswer a b) → a ≡ b
 unfolding sameAnswer
 same-answer a b t =
-    let n : a .number ≡ b .number = eqb-yes (search (and-l, and-r)) in
-    let c : a .count ≡ b .count = eqb-yes (search (and-l, and-r)) in
+    let n : a .told .number ≡ b .told .number = eqb-yes (search (and-l, and-r)) in
+    let r : a .told .result ≡ b .told .result = same-result (a .told .result) (b .told .result) (search (and-l, and-r)) in
     let w : a .written ≡ b .written = sameBytes-eq (a .written) (b .written) (search (and-l, and-r)) in
-    λ i. record { number = n i; count = c i; written = w i }
+    λ i. record { told = record { number = n i; result = r i }; written = w i }
 
 all-held : (ls : List Expected) (s : List ℕ) (m : Model) → Agree 31 s m → T (heldTest m ls) → AllHeld ls s
 all-held [] s m g t = tt
@@ -103,7 +110,7 @@ case-holds (script i o) t =
 -- ---- the whole table passes
 
 tested : T (all caseTest cases)
-unfolding sameAnswer emptyModel cases markedCases furtherCases isByte pad isLabel level sizing fabric cost includes dominates sameStep validStep validPath key isPrintable allowed storable bringable validElement contains closed remove pathBytes contentBytes slotBytes readPath readContent readSlot unusedZero layout slots readPartition wellFormedBy hasPartition partition replace isHeld elements openCell cellBytes openModel ownSet live decimal measureOf signed visible inView listed letter shown pathLine headLine listingOf listing subjectOf goodPath someRaw callerRows opRows table refusal refused done extending added effect outcome after answerOf storeAfter corrupted emptyStore callText inRange stepText callOf unreadLine answerLines isDigit callGuess stepGuess readable readLine
+unfolding sameResult sameAnswer emptyModel cases markedCases furtherCases isByte pad isLabel level sizing fabric cost includes dominates sameStep validStep validPath key isPrintable allowed storable bringable validElement contains closed remove pathBytes contentBytes slotBytes readPath readContent readSlot unusedZero layout slots readPartition wellFormedBy hasPartition partition replace isHeld elements openCell cellBytes openModel ownSet live decimal measureOf signed visible inView listed letter shown pathLine headLine listingOf listing subjectOf refusal someRaw goodPath viewPath callerRows opRows table writes changes extending added effect refused done outcome after answerOf storeAfter corrupted emptyStore callText inRange stepText callOf unreadLine answerLines isDigit callGuess stepGuess readable readLine
 tested = tt
 
 -- each row of the table holds

@@ -1,35 +1,18 @@
 -- Numbers in decimal: they are read back, and digits without a leading zero are the decimal of their value.
 use mathlib.Core.Path.{_≡_, refl, sym, ap, ap₂, _∙_}
 use mathlib.Core.Logic.{_≢_}
-use mathlib.Core.Bool.{Bool, true, false, not, cond, _&&_}
+use mathlib.Core.Bool.{Bool, true, false, not, cond}
 use mathlib.Core.List.{List, [], _∷_, _++_, append-nil, append-assoc}
 use Prim.Native.Nat.{ℕ, zero, suc, _+_, _-_, _*_, _/_, _%_, _≤_, _<_}
 use native.Mathlib.Omega.{arith}
 use lib.Dec.{T, eqb, leb, ltb}
 use mir.Facts.{leb-yes, yes-leb, ltb-yes, ltb-no, yes-ltb, no-ltb, eqb-no, no-eqb}
 use Rattle.model.specs.Lists.{all}
-use Rattle.model.specs.Text.{digits, decimal, signed}
+use Rattle.model.specs.Text.{digits, decimal, signed, isDigit, valueFrom, digitsValue, noLeadingZero}
 use Rattle.model.proofs.Bools.{and-l, and-r, both, decide, cond-yes, cond-no}
 use Rattle.model.proofs.Lists.{all-append}
 
--- ---- what digits stand for
-
-unfoldable pub isDigit : ℕ → Bool
-isDigit x = leb 48 x && leb x 57
-
--- the number that v and the digits after it stand for
-abbrev pub valueFrom : ℕ → List ℕ → ℕ
-valueFrom v [] = v
-valueFrom v (d ∷ ds) = valueFrom (v * 10 + (d - 48)) ds
-
-abbrev pub digitsValue : List ℕ → ℕ
-digitsValue ds = valueFrom 0 ds
-
--- at least one digit, and no zero before others
-abbrev pub noLeadingZero : List ℕ → Bool
-noLeadingZero [] = false
-noLeadingZero (d ∷ []) = true
-noLeadingZero (d ∷ e ∷ ds) = not (eqb d 48)
+-- ---- digits
 
 pub digit-range : (x : ℕ) → T (isDigit x) → (48 ≤ x) × (x ≤ 57)
 unfolding isDigit
@@ -196,6 +179,3 @@ pub signed-value : (m : ℕ) → m < 4294967296 → signedValue (signed m) ≡ m
 signed-value m h = signed-fact (λ l. signedValue l ≡ m) m
     (λ k. plain-value (decimal m) (decimal-digits m) ∙ decimal-value m)
     (λ k. rw (decimal-value (4294967296 - m)) (omega arith))
-
-pub signed-injective : (m n : ℕ) → m < 4294967296 → n < 4294967296 → signed m ≡ signed n → m ≡ n
-signed-injective m n h k e = sym (signed-value m h) ∙ ap signedValue e ∙ signed-value n k

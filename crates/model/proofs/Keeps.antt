@@ -1,31 +1,29 @@
--- Every call keeps its subject's set valid: count, elements, order, and the prefixes of the own label.
-use mathlib.Core.Path.{_≡_, refl, subst}
+-- A subject's set stays valid under what calls do to it: count, elements, order, and the prefixes of the own label.
+use mathlib.Core.Path.{_≡_, subst}
 use mathlib.Core.Logic.{_⊎_, inl, inr}
 use mathlib.Core.Bool.{not, cond}
-use mathlib.Core.Option.{Option, none, some}
 use mathlib.Core.List.{List, [], _∷_, List·Memᴰ·not-nil}
 use Prim.Native.Nat.{ℕ, _≤_, _<_}
 use native.Mathlib.Omega.{arith}
 use lib.ListN.{length}
 use lib.Dec.{T}
-use mir.Facts.{leb-no}
-use Rattle.model.specs.Label.{labels, isLabel, dominates}
+use Rattle.model.specs.Label.{labels, dominates}
 use Rattle.model.specs.Path.{Step, isPrefix, parent, endsIn, validPath, stepsOf, key}
 use Rattle.model.specs.Value.{Content, allowed, storable, bringable}
 use Rattle.model.specs.Element.{Element, validElement, contains, remove}
 use Rattle.model.specs.Partition.{readPartition, wellFormed}
-use Rattle.model.specs.Store.{storeSize, partition}
-use Rattle.model.specs.Model.{held, raw, elements, openCell, Model, openModel, ownSet, live}
+use Rattle.model.specs.Store.{partition}
+use Rattle.model.specs.Model.{held, raw, elements, openCell, Model, openModel, ownSet}
 use Rattle.model.specs.View.{visible, inView}
-use Rattle.model.specs.Call.{Op, view, insert, update, delete, Call, callSubject, goodPath, opRows, table, refusal, done, refused, added, effect, outcomeBy, outcome}
-use Rattle.model.proofs.Bools.{and-l, and-r, both, decide, cond-yes, cond-no, not-not}
-use Rattle.model.proofs.Members.{_∈_, all-in, any-in, gather-in}
+use Rattle.model.specs.Rows.{goodPath}
+use Rattle.model.specs.Call.{added}
+use Rattle.model.specs.Lists.{_∈_}
+use Rattle.model.proofs.Bools.{and-l, and-r, both, decide, cond-yes, cond-no}
+use Rattle.model.proofs.Members.{all-in, any-in, gather-in}
 use Rattle.model.proofs.Dominance.{dominates-lower, dominates-antisym}
 use Rattle.model.proofs.Paths.{prefix-trans, prefix-parent, prefix-below}
 use Rattle.model.proofs.Partitions.{ValidSet, well-formed, read-valid}
 use Rattle.model.proofs.Sets.{closed-facts, remove-valid, remove-fewer, remove-lacks, remove-near, put-valid}
-use Rattle.model.proofs.Rows.{Passes}
-use Rattle.model.proofs.Restriction.{live-own, Admitted, admitted}
 
 -- each set of the model is valid for its label
 abbrev pub ValidSets : Model → Type 0
@@ -78,9 +76,9 @@ in-view-own s m (a ∷ p) q sets v b t =
     own : (n : ℕ) → n ≡ s → (e : Element) → e ∈ ownSet n m → T (isPrefix q (e .path)) → T (contains (ownSet s m) q)
     own n eq e k bq = closed-facts s (ownSet s m) (sets s .closes) e (subst (λ j. e ∈ ownSet j m) eq k) q bq t
 
--- ---- each operation
+-- ---- an element that comes
 
-element-valid : (s : ℕ) (p : List ℕ) (c : Content) → T (goodPath p) → T (bringable c) → T (endsIn s (stepsOf p))
+pub element-valid : (s : ℕ) (p : List ℕ) (c : Content) → T (goodPath p) → T (bringable c) → T (endsIn s (stepsOf p))
     → T (validElement s (record { path = stepsOf p; content = c }))
 unfolding validElement goodPath bringable storable
 element-valid s p c g t l =
@@ -89,7 +87,7 @@ element-valid s p c g t l =
     search both
 
 module _ (s : ℕ) (m : Model) (sets : ValidSets m) where
-  insert-valid : (p : List Step) (c : Content) → T (validElement s (record { path = p; content = c })) → T (inView s m (parent p))
+  pub insert-valid : (p : List Step) (c : Content) → T (validElement s (record { path = p; content = c })) → T (inView s m (parent p))
       → T (not (contains (ownSet s m) p)) → length (ownSet s m) < 32 → ValidSet key s (added p c (ownSet s m))
   unfolding added
   insert-valid p c v iv nl room =
@@ -99,7 +97,7 @@ module _ (s : ℕ) (m : Model) (sets : ValidSets m) where
       near q (inl h) t = inl h
       near q (inr h) t = inr (in-view-own s m (parent p) q sets iv h t)
 
-  update-valid : (p : List Step) (c : Content) → T (validElement s (record { path = p; content = c })) → T (contains (ownSet s m) p)
+  pub update-valid : (p : List Step) (c : Content) → T (validElement s (record { path = p; content = c })) → T (contains (ownSet s m) p)
       → ValidSet key s (added p c (remove p (ownSet s m)))
   unfolding added
   update-valid p c v on =
@@ -108,40 +106,3 @@ module _ (s : ℕ) (m : Model) (sets : ValidSets m) where
       put-valid (record { path = p; content = c }) (remove p (ownSet s m)) (remove-lacks s p (ownSet s m)) s
       (remove-valid s p (ownSet s m) (sets s)) v (omega arith)
       (remove-near s p (ownSet s m) (closed-facts s (ownSet s m) (sets s .closes)) on)
-
-  becomes : {new es : List Element} → ValidSet key s new → some new ≡ some es → ValidSet key s es
-  becomes {new} {es} f e = let q : new ≡ es = cc in rw q at f
-
-  pub op-keeps : (o : Op) (es : List Element) → Passes (opRows o s m) → effect o s m .change ≡ some es → ValidSet key s es
-  unfolding opRows effect done
-  op-keeps (view p room) es h e = let z : _≡_ {A = ℕ} 0 1 = cc in absurd (omega arith)
-  op-keeps (insert p c) es h e =
-      let own : T (endsIn s (stepsOf p)) = not-not (endsIn s (stepsOf p)) (h .1 .1 .0) in
-      let lacks : T (not (contains (ownSet s m) (stepsOf p))) = rw (live-own s m (stepsOf p) own) at (h .1 .1 .1 .1 .0) in
-      let room : length (ownSet s m) < 32 = omega (arith, leb-no) in
-      becomes
-      (insert-valid (stepsOf p) c (element-valid s p c (not-not (goodPath p) (h .0)) (not-not (bringable c) (h .1 .0)) own)
-      (not-not (inView s m (parent (stepsOf p))) (h .1 .1 .1 .0)) lacks room) e
-  op-keeps (update p c) es h e =
-      let own : T (endsIn s (stepsOf p)) = not-not (endsIn s (stepsOf p)) (h .1 .1 .0) in
-      let has : T (contains (ownSet s m) (stepsOf p)) = rw (live-own s m (stepsOf p) own) at (not-not (live m (stepsOf p)) (h .1 .1 .1 .0)) in
-      becomes (update-valid (stepsOf p) c (element-valid s p c (not-not (goodPath p) (h .0)) (not-not (bringable c) (h .1 .0)) own) has) e
-  op-keeps (delete p) es h e = becomes (remove-valid s (stepsOf p) (ownSet s m) (sets s)) e
-
--- ---- a call
-
--- what holds where a call changes its subject's set to es
-pub record Kept (n : ℕ) (m : Model) (es : List Element) : Type 0 where
-  pub label : T (isLabel n)
-  pub size : m .size ≡ storeSize
-  pub valid : ValidSet key n es
-
-pub call-keeps : (c : Call) (m : Model) (es : List Element) → ValidSets m → outcome c m .change ≡ some es → Kept (callSubject c) m es
-unfolding outcome refused
-call-keeps c m es sets e = go (refusal (table c m)) refl e
-  where
-    go : (r : Option ℕ) → refusal (table c m) ≡ r → outcomeBy r c m .change ≡ some es → Kept (callSubject c) m es
-    go none q h =
-        let a : Admitted c m = admitted c m q in
-        record { label = a .label; size = a .size; valid = op-keeps (callSubject c) m sets (c .op) es (a .rows) h }
-    go (some k) q h = let z : _≡_ {A = ℕ} 0 1 = cc in absurd (omega arith)

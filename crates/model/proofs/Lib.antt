@@ -12,6 +12,7 @@ pub mod Stores
 pub mod Rows
 pub mod Restriction
 pub mod Keeps
+pub mod Operations
 pub mod Noninterference
 pub mod Refusals
 pub mod Marks

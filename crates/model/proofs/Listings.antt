@@ -2,12 +2,12 @@
 -- order the members leave one list only (`ascending-unique`).
 use mathlib.Core.List.{List, [], _∷_}
 use lib.Dec.{T}
-use Rattle.model.specs.Lists.{keep, gather}
+use Rattle.model.specs.Lists.{keep, gather, _∈_}
 use Rattle.model.specs.Sets.{ascending}
 use Rattle.model.specs.Path.{Step, isPrefix, prefixes, key, pathRank}
 use Rattle.model.specs.Element.{Element}
 use Rattle.model.specs.View.{reaches, listed}
-use Rattle.model.proofs.Members.{_∈_, any-in, in-any, keep-in, in-keep, gather-in, in-gather}
+use Rattle.model.proofs.Members.{any-in, in-any, keep-in, in-keep, gather-in, in-gather}
 use Rattle.model.proofs.Order.{ascending-sort, sort-in, in-sort}
 use Rattle.model.proofs.Paths.{in-prefixes, prefixes-in, key-keyed, keys-injective}
 

@@ -9,7 +9,7 @@ use Prim.Native.Nat.{ℕ, zero, suc, _+_, _≤_, _<_}
 use native.Mathlib.Omega.{arith}
 use lib.Dec.{T, eqb, eqb-refl}
 use mir.Facts.{eqb-yes, eqb-no}
-use Rattle.model.specs.Lists.{any, gather, range}
+use Rattle.model.specs.Lists.{any, gather, range, _∈_}
 use Rattle.model.specs.Label.{labels, dominates}
 use Rattle.model.specs.Path.{Step, samePath, isPrefix, lastStep, bears, endsIn, validPath, key}
 use Rattle.model.specs.Value.{Content}
@@ -17,7 +17,7 @@ use Rattle.model.specs.Element.{Element, rank, validElement, contains}
 use Rattle.model.specs.Model.{Model, ownSet, live}
 use Rattle.model.specs.View.{visible, inView, removed, contentAt}
 use Rattle.model.proofs.Bools.{and-l, and-r, or-l, or-r, decide, cond-yes, cond-no, is-true, is-false}
-use Rattle.model.proofs.Members.{_∈_, all-in, any-in}
+use Rattle.model.proofs.Members.{all-in, any-in}
 use Rattle.model.proofs.Dominance.{label-lt, dominates-lower, dominates-trans}
 use Rattle.model.proofs.Order.{ascending-sorted, sorted-one}
 use Rattle.model.proofs.Paths.{prefix-below, key-keyed, keys-injective}

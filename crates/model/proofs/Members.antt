@@ -2,15 +2,11 @@
 use mathlib.Core.Path.{_≡_, refl, sym, ap, ap₂, _∙_}
 use mathlib.Core.Logic.{_⊎_, inl, inr}
 use mathlib.Core.Bool.{Bool, not}
-use mathlib.Core.List.{List, [], _∷_, _++_, map, append-assoc, List·Memᴰ, List·Memᴰ·head, List·Memᴰ·tail, List·Memᴰ·cases-cons, List·Memᴰ·not-nil, List·Memᴰ·append-cases}
+use mathlib.Core.List.{List, [], _∷_, _++_, map, append-assoc, List·Memᴰ·head, List·Memᴰ·tail, List·Memᴰ·cases-cons, List·Memᴰ·not-nil, List·Memᴰ·append-cases}
 use lib.Dec.{T}
 use mir.Facts.{or-yes, T-not}
-use Rattle.model.specs.Lists.{all, any, keep, gather}
+use Rattle.model.specs.Lists.{_∈_, all, any, keep, gather}
 use Rattle.model.proofs.Bools.{and-l, and-r, both, or-l, or-r, decide, cond-yes, cond-no}
-
-infix 50 _∈_
-abbrev pub _∈_ : {A : Type 0} → A → List A → Type 0
-x ∈ l = List·Memᴰ x l
 
 -- members of the parts of a list
 pub in-front : {A : Type 0} (l m : List A) {x : A} → x ∈ l → x ∈ l ++ m
@@ -80,6 +76,11 @@ module _ {A : Type 0} where
       cond-no (p x) (x ∷ keep p (l ++ m)) (keep p (l ++ m)) t
       ∙ keep-append p l m
       ∙ sym (ap (λ (r : List A). r ++ keep p m) (cond-no (p x) (x ∷ keep p l) (keep p l) t)))
+
+  -- what is kept of lists one after another
+  pub keep-gather : {B : Type 0} (f : A → Bool) (g : B → List A) (ns : List B) → gather (λ n. keep f (g n)) ns ≡ keep f (gather g ns)
+  keep-gather f g [] = refl
+  keep-gather f g (n ∷ ns) = ap (λ (r : List A). keep f (g n) ++ r) (keep-gather f g ns) ∙ sym (keep-append f (g n) (gather g ns))
 
   pub in-keep : (p : A → Bool) (l : List A) {x : A} → x ∈ l → T (p x) → x ∈ keep p l
   in-keep p [] m t = absurd (List·Memᴰ·not-nil m)

@@ -23,8 +23,9 @@ use Rattle.model.proofs.Lists.{length-pad}
 use Rattle.model.proofs.Dominance.{dominates-upper, dominates-trans}
 use Rattle.model.proofs.Partitions.{ValidSet, well-formed, yes-well-formed, layout-read, read-layout, layout-well-formed, length-layout}
 use Rattle.model.proofs.Stores.{yes-has, length-replace, partition-own, partition-other}
-use Rattle.model.proofs.Restriction.{restrict, outcome-restrict}
-use Rattle.model.proofs.Keeps.{ValidSets, open-valid, Kept, call-keeps}
+use Rattle.model.proofs.Restriction.{restrict}
+use Rattle.model.proofs.Keeps.{ValidSets, open-valid}
+use Rattle.model.proofs.Operations.{outcome-restrict, Kept, call-keeps}
 
 -- the two laws of a call. What it keeps: a set that it changes is valid, and it changes one only for a label and on a store of
 -- the right size

@@ -2,17 +2,17 @@
 -- ascending list is determined by its members.
 use mathlib.Core.Path.{_≡_, refl, sym, ap, ap₂, _∙_, subst}
 use mathlib.Core.Logic.{_⊎_, inl, inr}
-use mathlib.Core.Bool.{Bool, true, not, cond, _&&_}
+use mathlib.Core.Bool.{Bool, not, cond, _&&_}
 use mathlib.Core.List.{List, [], _∷_, _++_, List·Memᴰ·head, List·Memᴰ·tail, List·Memᴰ·cases-cons, List·Memᴰ·not-nil, List·Memᴰ·append-cases}
 use Prim.Native.Nat.{ℕ, suc, _≤_, _<_}
 use native.Mathlib.Omega.{arith}
 use lib.ListN.{length}
 use lib.Dec.{T, eqb, ltb, eqb-refl}
 use mir.Facts.{not-T, no-ltb, or-yes, or-no, eqb-yes, yes-eqb, ltb-yes, ltb-no, yes-ltb}
-use Rattle.model.specs.Lists.{all, keep}
-use Rattle.model.specs.Sets.{precedes, ascending, put, sort}
+use Rattle.model.specs.Lists.{keep, _∈_}
+use Rattle.model.specs.Sets.{precedes, isBefore, ahead, sorted, ascending, put, sort}
 use Rattle.model.proofs.Bools.{and-l, and-r, both, not-second, or-l, or-r, decide, cond-yes, cond-no, is-true, is-false}
-use Rattle.model.proofs.Members.{_∈_, in-front, in-back, all-in, in-all, keep-in}
+use Rattle.model.proofs.Members.{in-front, in-back, all-in, in-all, keep-in}
 
 pub precedes-trans : (x y z : List ℕ) → T (precedes x y) → T (precedes y z) → T (precedes x z)
 precedes-trans [] [] z s t = absurd s
@@ -66,67 +66,57 @@ precedes-cancel (a ∷ x) u v =
     rw (is-false (ltb a a) (no-ltb h), is-true (eqb a a) (eqb-refl a)) (precedes-cancel x u v)
 
 module _ {A : Type 0} (rank : A → List ℕ) where
-  abbrev pub isBefore : A → A → Bool
-  isBefore x y = precedes (rank x) (rank y)
+  pub ahead-trans : (x y : A) (l : List A) → T (isBefore rank x y) → T (ahead rank y l) → T (ahead rank x l)
+  ahead-trans x y l t s = in-all (isBefore rank x) l (λ z m. precedes-trans (rank x) (rank y) (rank z) t (all-in (isBefore rank y) l s m))
 
-  abbrev pub ahead : A → List A → Bool
-  ahead x l = all (isBefore x) l
-
-  abbrev pub sorted : List A → Bool
-  sorted [] = true
-  sorted (x ∷ l) = ahead x l && sorted l
-
-  pub ahead-trans : (x y : A) (l : List A) → T (isBefore x y) → T (ahead y l) → T (ahead x l)
-  ahead-trans x y l t s = in-all (isBefore x) l (λ z m. precedes-trans (rank x) (rank y) (rank z) t (all-in (isBefore y) l s m))
-
-  pub ascending-sorted : (l : List A) → T (ascending rank l) → T (sorted l)
+  pub ascending-sorted : (l : List A) → T (ascending rank l) → T (sorted rank l)
   ascending-sorted [] t = tt
   ascending-sorted (x ∷ []) t = tt
   ascending-sorted (x ∷ y ∷ l) t =
-      let h : T (isBefore x y) = and-l (isBefore x y) (ascending rank (y ∷ l)) t in
-      let r : T (sorted (y ∷ l)) = ascending-sorted (y ∷ l) (and-r (isBefore x y) (ascending rank (y ∷ l)) t) in
-      both (ahead x (y ∷ l)) (sorted (y ∷ l))
-      (both (isBefore x y) (ahead x l) h (ahead-trans x y l h (and-l (ahead y l) (sorted l) r))) r
+      let h : T (isBefore rank x y) = and-l (isBefore rank x y) (ascending rank (y ∷ l)) t in
+      let r : T (sorted rank (y ∷ l)) = ascending-sorted (y ∷ l) (and-r (isBefore rank x y) (ascending rank (y ∷ l)) t) in
+      both (ahead rank x (y ∷ l)) (sorted rank (y ∷ l))
+      (both (isBefore rank x y) (ahead rank x l) h (ahead-trans x y l h (and-l (ahead rank y l) (sorted rank l) r))) r
 
-  pub sorted-ascending : (l : List A) → T (sorted l) → T (ascending rank l)
+  pub sorted-ascending : (l : List A) → T (sorted rank l) → T (ascending rank l)
   sorted-ascending [] t = tt
   sorted-ascending (x ∷ []) t = tt
   sorted-ascending (x ∷ y ∷ l) t =
-      both (isBefore x y) (ascending rank (y ∷ l))
-      (and-l (isBefore x y) (ahead x l) (and-l (ahead x (y ∷ l)) (sorted (y ∷ l)) t))
-      (sorted-ascending (y ∷ l) (and-r (ahead x (y ∷ l)) (sorted (y ∷ l)) t))
+      both (isBefore rank x y) (ascending rank (y ∷ l))
+      (and-l (isBefore rank x y) (ahead rank x l) (and-l (ahead rank x (y ∷ l)) (sorted rank (y ∷ l)) t))
+      (sorted-ascending (y ∷ l) (and-r (ahead rank x (y ∷ l)) (sorted rank (y ∷ l)) t))
 
-  pub sorted-keep : (k : A → Bool) (l : List A) → T (sorted l) → T (sorted (keep k l))
+  pub sorted-keep : (k : A → Bool) (l : List A) → T (sorted rank l) → T (sorted rank (keep k l))
   sorted-keep k [] t = tt
   sorted-keep k (d ∷ l) t =
-      let r : T (sorted (keep k l)) = sorted-keep k l (and-r (ahead d l) (sorted l) t) in
-      let f : T (ahead d l) = and-l (ahead d l) (sorted l) t in
+      let r : T (sorted rank (keep k l)) = sorted-keep k l (and-r (ahead rank d l) (sorted rank l) t) in
+      let f : T (ahead rank d l) = and-l (ahead rank d l) (sorted rank l) t in
       decide (k d)
       (λ (h : T (k d)).
       rw (cond-yes (k d) (d ∷ keep k l) (keep k l) h)
-      (both (ahead d (keep k l)) (sorted (keep k l)) (in-all (isBefore d) (keep k l) (λ x m. all-in (isBefore d) l f (keep-in k l m .0))) r))
+      (both (ahead rank d (keep k l)) (sorted rank (keep k l)) (in-all (isBefore rank d) (keep k l) (λ x m. all-in (isBefore rank d) l f (keep-in k l m .0))) r))
       (λ (h : T (not (k d))). rw (cond-no (k d) (d ∷ keep k l) (keep k l) h) r)
 
   -- ---- put, by the three places that x may find at y
 
   module _ (x y : A) (l : List A) where
-    put-after : T (isBefore y x) → put rank x (y ∷ l) ≡ y ∷ put rank x l
-    put-after t = cond-yes (isBefore y x) (y ∷ put rank x l) (cond (isBefore x y) (x ∷ y ∷ l) (y ∷ l)) t
+    put-after : T (isBefore rank y x) → put rank x (y ∷ l) ≡ y ∷ put rank x l
+    put-after t = cond-yes (isBefore rank y x) (y ∷ put rank x l) (cond (isBefore rank x y) (x ∷ y ∷ l) (y ∷ l)) t
 
-    put-here : T (not (isBefore y x)) → T (isBefore x y) → put rank x (y ∷ l) ≡ x ∷ y ∷ l
+    put-here : T (not (isBefore rank y x)) → T (isBefore rank x y) → put rank x (y ∷ l) ≡ x ∷ y ∷ l
     put-here s t =
-        cond-no (isBefore y x) (y ∷ put rank x l) (cond (isBefore x y) (x ∷ y ∷ l) (y ∷ l)) s
-        ∙ cond-yes (isBefore x y) (x ∷ y ∷ l) (y ∷ l) t
+        cond-no (isBefore rank y x) (y ∷ put rank x l) (cond (isBefore rank x y) (x ∷ y ∷ l) (y ∷ l)) s
+        ∙ cond-yes (isBefore rank x y) (x ∷ y ∷ l) (y ∷ l) t
 
-    put-there : T (not (isBefore y x)) → T (not (isBefore x y)) → put rank x (y ∷ l) ≡ y ∷ l
+    put-there : T (not (isBefore rank y x)) → T (not (isBefore rank x y)) → put rank x (y ∷ l) ≡ y ∷ l
     put-there s t =
-        cond-no (isBefore y x) (y ∷ put rank x l) (cond (isBefore x y) (x ∷ y ∷ l) (y ∷ l)) s
-        ∙ cond-no (isBefore x y) (x ∷ y ∷ l) (y ∷ l) t
+        cond-no (isBefore rank y x) (y ∷ put rank x l) (cond (isBefore rank x y) (x ∷ y ∷ l) (y ∷ l)) s
+        ∙ cond-no (isBefore rank x y) (x ∷ y ∷ l) (y ∷ l) t
 
     -- one case of three
-    three : {X : Type 0} → (T (isBefore y x) → X) → (T (not (isBefore y x)) → T (isBefore x y) → X)
-        → (T (not (isBefore y x)) → T (not (isBefore x y)) → X) → X
-    three f g h = decide (isBefore y x) f (λ s. decide (isBefore x y) (g s) (h s))
+    three : {X : Type 0} → (T (isBefore rank y x) → X) → (T (not (isBefore rank y x)) → T (isBefore rank x y) → X)
+        → (T (not (isBefore rank y x)) → T (not (isBefore rank x y)) → X) → X
+    three f g h = decide (isBefore rank y x) f (λ s. decide (isBefore rank x y) (g s) (h s))
 
   pub put-in : (x : A) (l : List A) {z : A} → z ∈ put rank x l → (z ≡ x) ⊎ (z ∈ l)
   put-in x [] m = List·Memᴰ·cases-cons m
@@ -186,41 +176,41 @@ module _ {A : Type 0} (rank : A → List ℕ) where
       (λ s t. rw (put-here x y l s t))
       (λ s t. absurd (f y (List·Memᴰ·head refl) (precedes-total (rank x) (rank y) t s)))
 
-  pub sorted-put : (x : A) (l : List A) → T (sorted l) → T (sorted (put rank x l))
+  pub sorted-put : (x : A) (l : List A) → T (sorted rank l) → T (sorted rank (put rank x l))
   sorted-put x [] t = tt
   sorted-put x (y ∷ l) t =
       three x y l
       (λ b. rw (put-after x y l b)
-      (both (ahead y (put rank x l)) (sorted (put rank x l)) (in-all (isBefore y) (put rank x l) (λ z m. after-y b z (put-in x l m))) (sorted-put x l (and-r (ahead y l) (sorted l) t))))
+      (both (ahead rank y (put rank x l)) (sorted rank (put rank x l)) (in-all (isBefore rank y) (put rank x l) (λ z m. after-y b z (put-in x l m))) (sorted-put x l (and-r (ahead rank y l) (sorted rank l) t))))
       (λ s b. rw (put-here x y l s b)
-      (both (isBefore x y && ahead x l) (sorted (y ∷ l)) (both (isBefore x y) (ahead x l) b (ahead-trans x y l b (and-l (ahead y l) (sorted l) t))) t))
+      (both (isBefore rank x y && ahead rank x l) (sorted rank (y ∷ l)) (both (isBefore rank x y) (ahead rank x l) b (ahead-trans x y l b (and-l (ahead rank y l) (sorted rank l) t))) t))
       (λ s b. rw (put-there x y l s b) t)
     where
-      after-y : T (isBefore y x) → (z : A) → (z ≡ x) ⊎ (z ∈ l) → T (isBefore y z)
+      after-y : T (isBefore rank y x) → (z : A) → (z ≡ x) ⊎ (z ∈ l) → T (isBefore rank y z)
       after-y b z (inl h) = rw h b
-      after-y b z (inr h) = all-in (isBefore y) l (and-l (ahead y l) (sorted l) t) h
+      after-y b z (inr h) = all-in (isBefore rank y) l (and-l (ahead rank y l) (sorted rank l) t) h
 
-  pub sorted-sort : (l : List A) → T (sorted (sort rank l))
+  pub sorted-sort : (l : List A) → T (sorted rank (sort rank l))
   sorted-sort [] = tt
   sorted-sort (x ∷ l) = sorted-put x (sort rank l) (sorted-sort l)
 
   -- two sorted lists with the same members are one list
-  pub sorted-unique : (ps qs : List A) → T (sorted ps) → T (sorted qs)
+  pub sorted-unique : (ps qs : List A) → T (sorted rank ps) → T (sorted rank qs)
       → ((x : A) → x ∈ ps → x ∈ qs) → ((x : A) → x ∈ qs → x ∈ ps) → ps ≡ qs
   sorted-unique [] [] s t f g = refl
   sorted-unique [] (q ∷ qs) s t f g = absurd (List·Memᴰ·not-nil (g q (List·Memᴰ·head refl)))
   sorted-unique (p ∷ ps) [] s t f g = absurd (List·Memᴰ·not-nil (f p (List·Memᴰ·head refl)))
   sorted-unique (p ∷ ps) (q ∷ qs) s t f g =
       ap₂ (λ (x : A) (y : List A). x ∷ y) e
-      (sorted-unique ps qs (and-r (ahead p ps) (sorted ps) s) (and-r (ahead q qs) (sorted qs) t)
+      (sorted-unique ps qs (and-r (ahead rank p ps) (sorted rank ps) s) (and-r (ahead rank q qs) (sorted rank qs) t)
       (λ x m. down x m (List·Memᴰ·cases-cons (f x (List·Memᴰ·tail m))))
       (λ x m. up x m (List·Memᴰ·cases-cons (g x (List·Memᴰ·tail m)))))
     where
-      under-p : (x : A) → x ∈ ps → T (isBefore p x)
-      under-p x m = all-in (isBefore p) ps (and-l (ahead p ps) (sorted ps) s) m
+      under-p : (x : A) → x ∈ ps → T (isBefore rank p x)
+      under-p x m = all-in (isBefore rank p) ps (and-l (ahead rank p ps) (sorted rank ps) s) m
 
-      under-q : (x : A) → x ∈ qs → T (isBefore q x)
-      under-q x m = all-in (isBefore q) qs (and-l (ahead q qs) (sorted qs) t) m
+      under-q : (x : A) → x ∈ qs → T (isBefore rank q x)
+      under-q x m = all-in (isBefore rank q) qs (and-l (ahead rank q qs) (sorted rank qs) t) m
 
       head : (p ≡ q) ⊎ (p ∈ qs) → (q ≡ p) ⊎ (q ∈ ps) → p ≡ q
       head (inl h) k = h
@@ -231,11 +221,11 @@ module _ {A : Type 0} (rank : A → List ℕ) where
       e = head (List·Memᴰ·cases-cons (f p (List·Memᴰ·head refl))) (List·Memᴰ·cases-cons (g q (List·Memᴰ·head refl)))
 
       down : (x : A) → x ∈ ps → (x ≡ q) ⊎ (x ∈ qs) → x ∈ qs
-      down x m (inl h) = absurd (precedes-irrefl (rank p) (subst (λ y. T (isBefore p y)) (h ∙ sym e) (under-p x m)))
+      down x m (inl h) = absurd (precedes-irrefl (rank p) (subst (λ y. T (isBefore rank p y)) (h ∙ sym e) (under-p x m)))
       down x m (inr h) = h
 
       up : (x : A) → x ∈ qs → (x ≡ p) ⊎ (x ∈ ps) → x ∈ ps
-      up x m (inl h) = absurd (precedes-irrefl (rank q) (subst (λ y. T (isBefore q y)) (h ∙ e) (under-q x m)))
+      up x m (inl h) = absurd (precedes-irrefl (rank q) (subst (λ y. T (isBefore rank q y)) (h ∙ e) (under-q x m)))
       up x m (inr h) = h
 
   -- an ascending list is determined by its members
@@ -271,37 +261,37 @@ module _ {A : Type 0} (rank : A → List ℕ) where
   in-sort inj l m = in-sort-members l (λ x y h k. inj x y) m
 
   -- a sorted list behind another, each member of which comes before each of its
-  pub sorted-append : (l m : List A) → T (sorted l) → T (sorted m) → ((x y : A) → x ∈ l → y ∈ m → T (isBefore x y)) → T (sorted (l ++ m))
+  pub sorted-append : (l m : List A) → T (sorted rank l) → T (sorted rank m) → ((x y : A) → x ∈ l → y ∈ m → T (isBefore rank x y)) → T (sorted rank (l ++ m))
   sorted-append [] m s t f = t
   sorted-append (x ∷ l) m s t f =
-      both (ahead x (l ++ m)) (sorted (l ++ m))
-      (in-all (isBefore x) (l ++ m) (λ z k. go z (List·Memᴰ·append-cases l k)))
-      (sorted-append l m (and-r (ahead x l) (sorted l) s) t (λ y z h k. f y z (List·Memᴰ·tail h) k))
+      both (ahead rank x (l ++ m)) (sorted rank (l ++ m))
+      (in-all (isBefore rank x) (l ++ m) (λ z k. go z (List·Memᴰ·append-cases l k)))
+      (sorted-append l m (and-r (ahead rank x l) (sorted rank l) s) t (λ y z h k. f y z (List·Memᴰ·tail h) k))
     where
-      go : (z : A) → (z ∈ l) ⊎ (z ∈ m) → T (isBefore x z)
-      go z (inl h) = all-in (isBefore x) l (and-l (ahead x l) (sorted l) s) h
+      go : (z : A) → (z ∈ l) ⊎ (z ∈ m) → T (isBefore rank x z)
+      go z (inl h) = all-in (isBefore rank x) l (and-l (ahead rank x l) (sorted rank l) s) h
       go z (inr h) = f x z (List·Memᴰ·head refl) h
 
   -- an element that comes before all others is the first
-  pub put-first : (x : A) (l : List A) → T (ahead x l) → put rank x l ≡ x ∷ l
+  pub put-first : (x : A) (l : List A) → T (ahead rank x l) → put rank x l ≡ x ∷ l
   put-first x [] t = refl
   put-first x (y ∷ l) t =
-      let a : T (isBefore x y) = and-l (isBefore x y) (ahead x l) t in
-      put-here x y l (not-T (isBefore y x) (λ h. precedes-irrefl (rank x) (precedes-trans (rank x) (rank y) (rank x) a h))) a
+      let a : T (isBefore rank x y) = and-l (isBefore rank x y) (ahead rank x l) t in
+      put-here x y l (not-T (isBefore rank y x) (λ h. precedes-irrefl (rank x) (precedes-trans (rank x) (rank y) (rank x) a h))) a
 
-  pub sort-first : (x : A) (l : List A) → T (ahead x l) → sort rank (x ∷ l) ≡ x ∷ sort rank l
-  sort-first x l t = put-first x (sort rank l) (in-all (isBefore x) (sort rank l) (λ y m. all-in (isBefore x) l t (sort-in l m)))
+  pub sort-first : (x : A) (l : List A) → T (ahead rank x l) → sort rank (x ∷ l) ≡ x ∷ sort rank l
+  sort-first x l t = put-first x (sort rank l) (in-all (isBefore rank x) (sort rank l) (λ y m. all-in (isBefore rank x) l t (sort-in l m)))
 
-  pub sort-behind : (y : A) (l m : List A) → T (ahead y l) → T (ahead y m) → sort rank (l ++ (y ∷ m)) ≡ y ∷ sort rank (l ++ m)
+  pub sort-behind : (y : A) (l m : List A) → T (ahead rank y l) → T (ahead rank y m) → sort rank (l ++ (y ∷ m)) ≡ y ∷ sort rank (l ++ m)
   sort-behind y [] m s t = sort-first y m t
   sort-behind y (x ∷ l) m s t =
-      ap (put rank x) (sort-behind y l m (and-r (isBefore y x) (ahead y l) s) t)
-      ∙ put-after x y (sort rank (l ++ m)) (and-l (isBefore y x) (ahead y l) s)
+      ap (put rank x) (sort-behind y l m (and-r (isBefore rank y x) (ahead rank y l) s) t)
+      ∙ put-after x y (sort rank (l ++ m)) (and-l (isBefore rank y x) (ahead rank y l) s)
 
   -- a sorted list is sorted already
-  pub sort-sorted : (l : List A) → T (sorted l) → sort rank l ≡ l
+  pub sort-sorted : (l : List A) → T (sorted rank l) → sort rank l ≡ l
   sort-sorted [] t = refl
-  sort-sorted (x ∷ l) t = sort-first x l (and-l (ahead x l) (sorted l) t) ∙ ap (λ (m : List A). x ∷ m) (sort-sorted l (and-r (ahead x l) (sorted l) t))
+  sort-sorted (x ∷ l) t = sort-first x l (and-l (ahead rank x l) (sorted rank l) t) ∙ ap (λ (m : List A). x ∷ m) (sort-sorted l (and-r (ahead rank x l) (sorted rank l) t))
 
   -- two lists, each sorted by itself, and then together
   pub sort-join : (l m : List A) → ((x y : A) → x ∈ l ++ m → y ∈ l ++ m → rank x ≡ rank y → x ≡ y)
@@ -323,13 +313,13 @@ module _ {A : Type 0} (rank : A → List ℕ) where
       up x (inr h) = in-back (sort rank l) (sort rank m) (in-sort-members m (λ a b i j. one a b (in-back l m i) (in-back l m j)) h)
 
   -- members of a sorted list with one rank are one
-  pub sorted-one : (l : List A) → T (sorted l) → (x y : A) → x ∈ l → y ∈ l → rank x ≡ rank y → x ≡ y
+  pub sorted-one : (l : List A) → T (sorted rank l) → (x y : A) → x ∈ l → y ∈ l → rank x ≡ rank y → x ≡ y
   sorted-one [] t x y h k e = absurd (List·Memᴰ·not-nil h)
   sorted-one (z ∷ l) t x y h k e =
-      go (List·Memᴰ·cases-cons h) (List·Memᴰ·cases-cons k) (λ i j. sorted-one l (and-r (ahead z l) (sorted l) t) x y i j e)
+      go (List·Memᴰ·cases-cons h) (List·Memᴰ·cases-cons k) (λ i j. sorted-one l (and-r (ahead rank z l) (sorted rank l) t) x y i j e)
     where
-      first : (w : A) → w ∈ l → T (isBefore z w)
-      first w m = all-in (isBefore z) l (and-l (ahead z l) (sorted l) t) m
+      first : (w : A) → w ∈ l → T (isBefore rank z w)
+      first w m = all-in (isBefore rank z) l (and-l (ahead rank z l) (sorted rank l) t) m
 
       go : (x ≡ z) ⊎ (x ∈ l) → (y ≡ z) ⊎ (y ∈ l) → (x ∈ l → y ∈ l → x ≡ y) → x ≡ y
       go (inl a) (inl b) f = a ∙ sym b

@@ -16,7 +16,8 @@ use Rattle.model.specs.Element.{Element, validElement, closed}
 use Rattle.model.specs.Slot.{slotSize, slotBytes, readSlot, unusedZero}
 use Rattle.model.specs.Partition.{slotsAt, partitionSize, layout, count, slotStart, slotAt, slots, readPartition, wellFormedBy}
 use Rattle.model.proofs.Bools.{and-l, and-r, both, same-test}
-use Rattle.model.proofs.Lists.{sameBytes, sameBytes-eq, sameBytes-refl, all-take, all-drop, length-pad, pad-short, Bytes, bytes-one, bytes-append, bytes-pad, length-between, between-none, between-one, between-all, joins, zeros-behind, pad-between, length-range}
+use Rattle.model.proofs.Lists.{sameBytes, sameBytes-eq, sameBytes-refl, all-take, all-drop, length-pad, pad-short, Bytes, bytes-one}
+use Rattle.model.proofs.Lists.{bytes-append, bytes-pad, length-between, between-none, between-one, between-all, joins, zeros-behind, pad-between, length-range}
 use Rattle.model.proofs.Slots.{valid-fits, length-slot, read-slot, slot-forth, slot-unused, slot-bytes}
 
 -- ---- well-formedness and validity, fact by fact

@@ -12,8 +12,9 @@ use mir.Facts.{or-no, eqb-yes, yes-eqb, ltb-no, T-not}
 use Rattle.model.specs.Sets.{precedes}
 use Rattle.model.specs.Label.{isLabel, dominates}
 use Rattle.model.specs.Path.{Step, sameStep, samePath, isPrefix, prefixes, parent, endsIn, labelsAscend, key, keys}
+use Rattle.model.specs.Lists.{_∈_}
 use Rattle.model.proofs.Bools.{and-l, and-r, both, not-second}
-use Rattle.model.proofs.Members.{_∈_, map-in, in-map}
+use Rattle.model.proofs.Members.{map-in, in-map}
 use Rattle.model.proofs.Dominance.{dominates-refl, dominates-trans}
 use Rattle.model.proofs.Order.{precedes-total, precedes-cancel}
 

@@ -11,14 +11,14 @@ use Rattle.model.specs.Lists.{all}
 use Rattle.model.specs.Path.{Step}
 use Rattle.model.specs.Value.{isPrintable}
 use Rattle.model.specs.Store.{emptyStore}
-use Rattle.model.specs.Text.{decimal, signed}
+use Rattle.model.specs.Text.{decimal, signed, isDigit, digitsValue}
 use Rattle.model.specs.Script.{ScriptValue, group, measure, text, ScriptOp, view, insert, update, delete, ScriptCall}
 use Rattle.model.specs.Script.{stepText, pathText, valueFields, opFields, callText, pathInRange, valueInRange, opInRange, inRange}
 use Rattle.model.specs.Script.{Reads, Reading, linesOf, output, Readings, Prints}
 use Rattle.model.proofs.Bools.{and-l, and-r, both, decide, cond-yes, cond-no}
 use Rattle.model.proofs.Lists.{sameBytes, sameBytes-eq, sameBytes-refl}
 use Rattle.model.proofs.Fields.{all-map, all-joined, split, split-joined, lacks, lacks-of}
-use Rattle.model.proofs.Decimal.{isDigit, digitsValue, decimal-value, decimal-digits, signedValue, signed-fact, signed-value}
+use Rattle.model.proofs.Decimal.{decimal-value, decimal-digits, signedValue, signed-fact, signed-value}
 
 -- ---- the call that a line has to be if it is one
 

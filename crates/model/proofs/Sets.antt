@@ -9,12 +9,12 @@ use native.Mathlib.Omega.{arith}
 use lib.ListN.{length}
 use lib.Dec.{T}
 use mir.Facts.{or-yes, T-not}
-use Rattle.model.specs.Lists.{all, keep}
+use Rattle.model.specs.Lists.{all, keep, _∈_}
 use Rattle.model.specs.Sets.{put}
 use Rattle.model.specs.Path.{Step, samePath, isPrefix, prefixes, endsIn, key}
 use Rattle.model.specs.Element.{Element, rank, validElement, contains, closed, remove}
 use Rattle.model.proofs.Bools.{or-l, or-r, decide, cond-yes, cond-no, yes-not-not}
-use Rattle.model.proofs.Members.{_∈_, all-in, in-all, any-in, in-any, not-any, keep-in, in-keep}
+use Rattle.model.proofs.Members.{all-in, in-all, any-in, in-any, not-any, keep-in, in-keep}
 use Rattle.model.proofs.Order.{ascending-sorted, sorted-ascending, sorted-keep, sorted-put, put-in, in-put, put-new, length-put, Fresh}
 use Rattle.model.proofs.Paths.{same-eq, same-refl, prefix-refl, prefix-trans, prefix-antisym, in-prefixes, prefixes-in, keys-injective, key-keyed}
 use Rattle.model.proofs.Partitions.{ValidSet}

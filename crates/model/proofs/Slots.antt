@@ -15,7 +15,8 @@ use Rattle.model.specs.Value.{allowed, storable, isPrintable}
 use Rattle.model.specs.Element.{Element, validElement}
 use Rattle.model.specs.Slot.{namesAt, labelsAt, kindAt, lengthAt, valueAt, spareAt, slotSize, nameBytes, pathBytes, contentBytes, slotBytes, depth, stepAt, valueLength, readPath, readContent, readSlot, unusedZero}
 use Rattle.model.proofs.Bools.{and-l, and-r, both}
-use Rattle.model.proofs.Lists.{all-implies, all-getD, length-pad, pad-append, Bytes, bytes-one, bytes-append, bytes-pad, length-between, between-all, between-one, between-none, between-cons, joins, zeros-behind, pad-between, getD-front, drop-next, length-range}
+use Rattle.model.proofs.Lists.{all-implies, all-getD, length-pad, pad-append, Bytes, bytes-one, bytes-append, bytes-pad, length-between}
+use Rattle.model.proofs.Lists.{between-all, between-one, between-none, between-cons, joins, zeros-behind, pad-between, getD-front, drop-next, length-range}
 
 -- what fits a slot
 pub record Fits (e : Element) : Type 0 where

@@ -1,16 +1,14 @@
 -- Loops over a range: what is left from place i on gives the same answer as the whole.
 use mathlib.Core.Path.{_≡_, sym, ap, _∙_}
-use mathlib.Core.Bool.{Bool, true, false, not}
+use mathlib.Core.Bool.{Bool, true, false}
 use mathlib.Core.List.{List, [], _∷_, List·Memᴰ·head, List·Memᴰ·tail}
 use Prim.Native.Nat.{ℕ, zero, suc, _+_, _-_, _≤_, _<_}
 use native.Mathlib.Numerals.{add-one}
 use native.Mathlib.Omega.{arith}
-use borrow.Author.Tests.{not-true, not-false}
 use native.Mathlib.Decide.{decLe}
 use lib.Dec.{T}
-use Rattle.model.specs.Lists.{all, any, range}
+use Rattle.model.specs.Lists.{all, any, range, _∈_}
 use Rattle.model.proofs.Bools.{and-l, and-r}
-use Rattle.model.proofs.Members.{_∈_}
 
 -- what is left of c places from place i on
 abbrev pub rest : {A : Type 0} → (ℕ → A) → ℕ → ℕ → List A
@@ -30,20 +28,6 @@ pub record Left {A B : Type 0} (g : ℕ → A) (f : List A → B) (w : B) (c i :
 
 pub left-start : {A B : Type 0} (g : ℕ → A) (f : List A → B) (c : ℕ) → Left g f (f (range g 0 c)) c 0
 left-start g f c = record { within = omega arith; same = let e : c - 0 ≡ c = omega arith in rw e }
-
--- tests that all must pass
-module _ {A : Type 0} {g : ℕ → A} {p : A → Bool} {w : Bool} {c i : ℕ} (inv : Left g (all p) w c i) where
-  pub all-end : c ≤ i → true ≡ w
-  all-end h = sym (inv .same ∙ ap (all p) (rest-end g c i h))
-
-  module _ {r : Bool} (h : i < c) (e : r ≡ p (g i)) where
-    pub all-fails : not r ≡ true → false ≡ w
-    all-fails t = let q : p (g i) ≡ false = sym e ∙ not-true r t in sym (inv .same ∙ ap (all p) (rest-more g c i h) ∙ rw q)
-
-    pub all-next : not r ≡ false → Left g (all p) w c (i + 1)
-    all-next t =
-        let q : p (g i) ≡ true = sym e ∙ not-false r t in
-        record { within = omega arith; same = inv .same ∙ ap (all p) (rest-more g c i h) ∙ rw q }
 
 -- tests of which one must pass
 module _ {A : Type 0} {g : ℕ → A} {p : A → Bool} {w : Bool} {c i : ℕ} (inv : Left g (any p) w c i) where

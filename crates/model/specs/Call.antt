@@ -1,19 +1,16 @@
--- The calls, the table of refusals, and what each call does (document 01, "The four calls" and "Whole runs and the book").
-use mathlib.Core.Bool.{Bool, not, cond, _&&_, _||_}
+-- The calls, their rows of the table, and what each does (document 01, "The four calls" and "Whole runs and the book").
 use mathlib.Core.Option.{Option, none, some}
-use mathlib.Core.List.{List, [], _∷_, _++_}
-use Prim.Native.Nat.{ℕ, _%_}
+use mathlib.Core.List.{List, [], _++_}
+use Prim.Native.Nat.{ℕ}
 use lib.ListN.{length}
-use lib.Dec.{eqb, leb, ltb}
-use Rattle.model.specs.Lists.{any, keep}
+use Rattle.model.specs.Lists.{keep}
 use Rattle.model.specs.Sets.{put}
-use Rattle.model.specs.Label.{labels, isLabel, dominates}
-use Rattle.model.specs.Path.{Step, isPrefix, parent, endsIn, validPath, stepsOf}
-use Rattle.model.specs.Value.{Content, bringable}
+use Rattle.model.specs.Path.{Step, isPrefix, stepsOf}
+use Rattle.model.specs.Value.{Content}
 use Rattle.model.specs.Element.{Element, rank, remove}
-use Rattle.model.specs.Store.{storeSize}
-use Rattle.model.specs.Model.{Model, isHeld, ownSet, withSet, live}
-use Rattle.model.specs.View.{inView, listing}
+use Rattle.model.specs.Model.{Model, ownSet, withSet}
+use Rattle.model.specs.View.{listing}
+use Rattle.model.specs.Rows.{Row, refusal, sizeRows, labelRows, formedRows, pathRows, lookRows, bringRows, ownLiveRows, placeRows, roomRows}
 
 -- who calls
 pub data Caller : Type 0 where
@@ -36,66 +33,44 @@ pub record Call : Type 0 where
 abbrev pub callSubject : Call → ℕ
 callSubject c = subjectOf (c .who)
 
--- ---- the table: each row has a number and whether its cause applies
+-- a bare subject's call
+abbrev pub by : ℕ → Op → Call
+by s o = record { who = subject s; op = o }
 
-pub data Row : Type 0 where
-  row : (number : ℕ) (applies : Bool) → Row
-
--- a path of one to six steps, as bytes
-unfoldable pub goodPath : List ℕ → Bool
-goodPath p = eqb (length p % 3) 0 && validPath (stepsOf p)
-
--- a partition dominated by the subject is not well formed
-unfoldable pub someRaw : ℕ → Model → Bool
-someRaw s m = any (λ n. dominates s n && not (isHeld (m .cell n))) labels
+-- ---- the table
 
 -- the rows that the caller adds after row 1; a bare subject adds none
 unfoldable pub callerRows : Caller → Op → List Row
 callerRows (subject s) o = []
 
--- a delete's conditions behind the path's: the last label is the subject's, and the element is live
-abbrev pub ownLiveRows : ℕ → Model → List Step → List Row
-ownLiveRows s m p = row 6 (not (endsIn s p)) ∷ row 7 (not (live m p)) ∷ []
-
--- the rows of each operation, for subject s; an update has a delete's and the value's
+-- the rows of each operation, for subject s
 unfoldable pub opRows : Op → ℕ → Model → List Row
-opRows (view p room) s m =
-    row 4 (not (eqb (length p) 0 || goodPath p))
-    ∷ row 7 (not (inView s m (stepsOf p)))
-    ∷ row 10 (ltb room (length (listing s m (stepsOf p))))
-    ∷ []
-opRows (insert p c) s m =
-    row 4 (not (goodPath p))
-    ∷ row 5 (not (bringable c))
-    ∷ row 6 (not (endsIn s (stepsOf p)))
-    ∷ row 7 (not (inView s m (parent (stepsOf p))))
-    ∷ row 8 (live m (stepsOf p))
-    ∷ row 9 (leb 32 (length (ownSet s m)))
-    ∷ []
-opRows (update p c) s m =
-    row 4 (not (goodPath p))
-    ∷ row 5 (not (bringable c))
-    ∷ ownLiveRows s m (stepsOf p)
-opRows (delete p) s m = row 4 (not (goodPath p)) ∷ ownLiveRows s m (stepsOf p)
+opRows (view p room) s m = lookRows s m p ++ roomRows room (listing s m (stepsOf p))
+opRows (insert p c) s m = bringRows p c ++ placeRows s m (stepsOf p)
+opRows (update p c) s m = bringRows p c ++ ownLiveRows s m (stepsOf p)
+opRows (delete p) s m = pathRows p ++ ownLiveRows s m (stepsOf p)
 
 unfoldable pub table : Call → Model → List Row
 table c m =
-    row 1 (not (eqb (m .size) storeSize))
-    ∷ (callerRows (c .who) (c .op)
-    ++ (row 2 (not (isLabel (callSubject c)))
-    ∷ row 3 (someRaw (callSubject c) m)
-    ∷ opRows (c .op) (callSubject c) m))
-
--- the number of the first row that applies
-unfoldable pub refusal : List Row → Option ℕ
-refusal [] = none
-refusal (row k t ∷ rs) = cond t (some k) (refusal rs)
+    sizeRows m
+    ++ (callerRows (c .who) (c .op) ++ (labelRows (callSubject c) ++ (formedRows (callSubject c) m ++ opRows (c .op) (callSubject c) m)))
 
 -- ---- what a call answers and changes
 
-pub record Answer : Type 0 where
+-- what a call yields beside its number
+pub data Result : Type 0 where
+  count : ℕ → Result
+
+-- what it tells: 0 or the number of its refusal, and the result
+pub record Told : Type 0 where
   pub number : ℕ
-  pub count : ℕ
+  pub result : Result
+
+abbrev pub counted : ℕ → ℕ → Told
+counted k n = record { number = k; result = count n }
+
+pub record Answer : Type 0 where
+  pub told : Told
   pub written : List ℕ
 
 pub record Outcome : Type 0 where
@@ -103,11 +78,19 @@ pub record Outcome : Type 0 where
   -- the subject's set afterwards, where it changes
   pub change : Option (List Element)
 
-unfoldable pub refused : ℕ → Outcome
-refused k = record { answer = record { number = k; count = 0; written = [] }; change = none }
+-- what an operation yields, writes and changes if no row refuses it
+pub record Effect : Type 0 where
+  pub result : Result
+  pub written : List ℕ
+  pub change : Option (List Element)
 
-unfoldable pub done : ℕ → List ℕ → Option (List Element) → Outcome
-done k w es = record { answer = record { number = 0; count = k; written = w }; change = es }
+-- a text is written and nothing changes
+unfoldable pub writes : Result → List ℕ → Effect
+writes r w = record { result = r; written = w; change = none }
+
+-- nothing is written and the subject's set becomes es
+unfoldable pub changes : Result → List Element → Effect
+changes r es = record { result = r; written = []; change = some es }
 
 -- how many elements have the path or extend it
 unfoldable pub extending : List Step → List Element → ℕ
@@ -117,20 +100,29 @@ extending p es = length (keep (λ e. isPrefix p (e .path)) es)
 unfoldable pub added : List Step → Content → List Element → List Element
 added p c es = put rank (record { path = p; content = c }) es
 
-unfoldable pub effect : Op → ℕ → Model → Outcome
-effect (view p room) s m = done (length (listing s m (stepsOf p))) (listing s m (stepsOf p)) none
-effect (insert p c) s m = done 0 [] (some (added (stepsOf p) c (ownSet s m)))
-effect (update p c) s m =
-    done (extending (stepsOf p) (ownSet s m)) [] (some (added (stepsOf p) c (remove (stepsOf p) (ownSet s m))))
-effect (delete p) s m = done (extending (stepsOf p) (ownSet s m)) [] (some (remove (stepsOf p) (ownSet s m)))
+unfoldable pub effect : Op → ℕ → Model → Effect
+effect (view p room) s m = writes (count (length (listing s m (stepsOf p)))) (listing s m (stepsOf p))
+effect (insert p c) s m = changes (count 0) (added (stepsOf p) c (ownSet s m))
+effect (update p c) s m = changes (count (extending (stepsOf p) (ownSet s m))) (added (stepsOf p) c (remove (stepsOf p) (ownSet s m)))
+effect (delete p) s m = changes (count (extending (stepsOf p) (ownSet s m))) (remove (stepsOf p) (ownSet s m))
 
-abbrev pub outcomeBy : Option ℕ → Call → Model → Outcome
-outcomeBy none c m = effect (c .op) (callSubject c) m
-outcomeBy (some k) c m = refused k
+-- what an operation yields that is refused: nothing
+abbrev pub nothing : Op → Result
+nothing o = count 0
 
--- a call goes by the table first; a refusal gives its row and changes nothing
+unfoldable pub refused : ℕ → Op → Outcome
+refused k o = record { answer = record { told = record { number = k; result = nothing o }; written = [] }; change = none }
+
+unfoldable pub done : Effect → Outcome
+done x = record { answer = record { told = record { number = 0; result = x .result }; written = x .written }; change = x .change }
+
+-- an operation goes by its rows first; a refusal gives its row and changes nothing
+abbrev pub outcomeBy : Option ℕ → Op → ℕ → Model → Outcome
+outcomeBy none o s m = done (effect o s m)
+outcomeBy (some k) o s m = refused k o
+
 unfoldable pub outcome : Call → Model → Outcome
-outcome c m = outcomeBy (refusal (table c m)) c m
+outcome c m = outcomeBy (refusal (table c m)) (c .op) (callSubject c) m
 
 -- the model after a call
 unfoldable pub after : Call → Model → Model

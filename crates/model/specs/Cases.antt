@@ -13,7 +13,7 @@ use Rattle.model.specs.Value.{Content}
 use Rattle.model.specs.Partition.{partitionSize}
 use Rattle.model.specs.Store.{partition, emptyStore}
 use Rattle.model.specs.Text.{ascii}
-use Rattle.model.specs.Call.{subject, Op, view, insert, update, delete, Call, Answer}
+use Rattle.model.specs.Call.{view, insert, update, delete, Call, by, count, Answer}
 use Rattle.model.specs.Run.{answerOf, storeAfter, call, corrupted, run}
 use Rattle.model.specs.Script.{lentPath, Prints}
 
@@ -48,9 +48,6 @@ Holds (script i o) = Prints (ascii i) (ascii o)
 
 -- ---- names for the rows
 
-abbrev by : ℕ → Op → Call
-by s o = record { who = subject s; op = o }
-
 abbrev step : ℕ → ℕ → Step
 step n l = record { name = n; label = l }
 
@@ -69,13 +66,13 @@ text t = record { kind = 2; value = ascii t }
 
 -- done with a count and nothing written; refused; done with the bytes written, which are counted
 abbrev counted : ℕ → Answer
-counted n = record { number = 0; count = n; written = [] }
+counted n = record { told = record { number = 0; result = count n }; written = [] }
 
 abbrev refusedBy : ℕ → Answer
-refusedBy k = record { number = k; count = 0; written = [] }
+refusedBy k = record { told = record { number = k; result = count 0 }; written = [] }
 
 abbrev printed : ℕ → String → Answer
-printed n t = record { number = 0; count = n; written = ascii t }
+printed n t = record { told = record { number = 0; result = count n }; written = ascii t }
 
 -- ---- calls of the rows
 

@@ -11,6 +11,7 @@ pub mod Store
 pub mod Model
 pub mod Text
 pub mod View
+pub mod Rows
 pub mod Call
 pub mod Run
 pub mod Script

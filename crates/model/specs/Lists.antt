@@ -1,9 +1,14 @@
 -- Lists: tests over the members, parts, fixed widths and joined fields.
 use mathlib.Core.Bool.{Bool, true, false, cond, _&&_, _||_}
-use mathlib.Core.List.{List, [], _∷_, _++_}
+use mathlib.Core.List.{List, [], _∷_, _++_, List·Memᴰ}
 use Prim.Native.Nat.{ℕ, zero, suc, _-_}
 use lib.ListN.{take, drop, replicate}
 use lib.Dec.{eqb, ltb}
+
+-- a member of a list
+infix 50 _∈_
+abbrev pub _∈_ : {A : Type 0} → A → List A → Type 0
+x ∈ l = List·Memᴰ x l
 
 module _ {A : Type 0} where
   -- every member passes

@@ -11,7 +11,7 @@ use Rattle.model.specs.Path.{Step}
 use Rattle.model.specs.Value.{Content, isPrintable}
 use Rattle.model.specs.Store.{emptyStore}
 use Rattle.model.specs.Text.{ascii, decimal, signed, fields, line}
-use Rattle.model.specs.Call.{Call, Answer}
+use Rattle.model.specs.Call.{Call, Answer, Result, count}
 use Rattle.model.specs.Call
 use Rattle.model.specs.Run.{answerOf, storeAfter}
 
@@ -128,9 +128,13 @@ linesOf i = linesFrom [] i
 unfoldable pub unreadLine : List ℕ
 unreadLine = line (ascii "A" ∷ ascii "?" ∷ ascii "0" ∷ [])
 
+-- a count in decimal
+abbrev pub resultFields : Result → List (List ℕ)
+resultFields (count n) = decimal n ∷ []
+
 -- the listing, if any, then A, number, count
 unfoldable pub answerLines : Answer → List ℕ
-answerLines a = a .written ++ line (ascii "A" ∷ decimal (a .number) ∷ decimal (a .count) ∷ [])
+answerLines a = a .written ++ line (ascii "A" ∷ decimal (a .told .number) ∷ resultFields (a .told .result))
 
 -- of lines read so, one after another, from a store
 abbrev pub output : List (Option ScriptCall) → List ℕ → List ℕ

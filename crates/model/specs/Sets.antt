@@ -4,6 +4,7 @@ use mathlib.Core.Bool.{Bool, true, false, cond, _&&_, _||_}
 use mathlib.Core.List.{List, [], _∷_}
 use Prim.Native.Nat.{ℕ}
 use lib.Dec.{eqb, ltb}
+use Rattle.model.specs.Lists.{all}
 
 -- the order of ranks: number by number, and a list before its extensions
 abbrev pub precedes : List ℕ → List ℕ → Bool
@@ -13,6 +14,18 @@ precedes (x ∷ r) [] = false
 precedes (x ∷ r) (y ∷ s) = ltb x y || (eqb x y && precedes r s)
 
 module _ {A : Type 0} (rank : A → List ℕ) where
+  -- a member comes before another; before all of a list
+  abbrev pub isBefore : A → A → Bool
+  isBefore x y = precedes (rank x) (rank y)
+
+  abbrev pub ahead : A → List A → Bool
+  ahead x l = all (isBefore x) l
+
+  -- each member comes before all behind it; by `ascending-sorted` the same as the next
+  abbrev pub sorted : List A → Bool
+  sorted [] = true
+  sorted (x ∷ l) = ahead x l && sorted l
+
   -- each member comes strictly before the next
   abbrev pub ascending : List A → Bool
   ascending [] = true

@@ -9,7 +9,7 @@ use Rattle.model.specs.Sets.{sort}
 use Rattle.model.specs.Label.{labels, dominates}
 use Rattle.model.specs.Path.{Step, samePath, isPrefix, prefixes, lastStep, pathRank}
 use Rattle.model.specs.Value.{Content}
-use Rattle.model.specs.Element.{Element}
+use Rattle.model.specs.Element.{Element, rank}
 use Rattle.model.specs.Model.{Model, ownSet, live}
 use Rattle.model.specs.Text.{ascii, decimal, measureOf, signed, line}
 
@@ -29,6 +29,16 @@ inView s m p = reaches (visible s m) p
 -- removed: in view but not live; the listing marks such a path R (`shown-removed`)
 unfoldable pub removed : ℕ → Model → List Step → Bool
 removed s m p = inView s m p && not (live m p)
+
+-- ---- what is visible at or below a path
+
+-- those of the elements v whose path is p or extends it, in path order
+abbrev pub below : List Step → List Element → List Element
+below p v = sort rank (keep (λ e. isPrefix p (e .path)) v)
+
+-- the visible ones; the listing is read off them (`listing-walk`)
+abbrev pub seenBelow : ℕ → Model → List Step → List Element
+seenBelow s m p = below p (visible s m)
 
 -- ---- the listing of the visible elements v
 

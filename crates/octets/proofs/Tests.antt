@@ -22,10 +22,12 @@ pub record Tested (p : ℕ → Bool) (s : List ℕ) (t : Bool) (i : ℕ) : Type 
   pub within : i ≤ length s
   pub same : all p s ≡ (t && all p (drop i s))
 
+-- so it is before the first member
 pub test-start : (p : ℕ → Bool) (s : List ℕ) → Tested p s true 0
 test-start p s = record { within = omega arith; same = refl }
 
 module _ {p : ℕ → Bool} {s : List ℕ} {t : Bool} {i : ℕ} (inv : Tested p s t i) where
+  -- and with the member at place i
   pub test-next : i < length s → {u : Bool} → u ≡ (t && p (getD s i 0)) → Tested p s u (i + 1)
   test-next h e =
       let d : drop i s ≡ getD s i 0 ∷ drop (i + 1) s = rw (add-one i) (drop-cons s i 0 h) in
@@ -36,14 +38,17 @@ module _ {p : ℕ → Bool} {s : List ℕ} {t : Bool} {i : ℕ} (inv : Tested p 
             ∙ ap (λ (b : Bool). b && all p (drop (i + 1) s)) (sym e);
       }
 
+  -- after the last member it is the answer
   pub test-end : length s ≤ i → t ≡ all p s
   test-end h = sym (inv .same ∙ ap (λ (l : List ℕ). t && all p l) (drop-of-length-le s h) ∙ and-true t)
 
 -- t is the answer for the members from k to i - 1
 module _ {p : ℕ → Bool} (s : List ℕ) (k i : ℕ) {t : Bool} (inv : Tested p (drop k s) t (i - k)) where
+  -- a member before place k does not count
   pub tail-skip : i < k → {u : Bool} → u ≡ t → Tested p (drop k s) u (i + 1 - k)
   tail-skip h e = let n : i + 1 - k ≡ i - k = omega arith in rw (e, n) inv
 
+  -- one from there on does
   pub tail-next : k ≤ i → i < length s → {u : Bool} → u ≡ (t && p (getD s i 0)) → Tested p (drop k s) u (i + 1 - k)
   tail-next h l e =
       let n : i + 1 - k ≡ i - k + 1 = omega arith in
@@ -51,9 +56,11 @@ module _ {p : ℕ → Bool} (s : List ℕ) (k i : ℕ) {t : Bool} (inv : Tested 
       let g : getD (drop k s) (i - k) 0 ≡ getD s i 0 = getD-drop k s (i - k) 0 ∙ ap (λ (j : ℕ). getD s j 0) q in
       rw n (test-next inv (simp length-drop (omega arith)) (e ∙ ap (λ (x : ℕ). t && p x) (sym g)))
 
+  -- after the last member it is the answer for those from place k on
   pub tail-end : length s ≤ i → t ≡ all p (drop k s)
   tail-end h = test-end inv (simp length-drop (omega arith))
 
+-- so it is before the first member
 pub tail-start : (p : ℕ → Bool) (s : List ℕ) (k : ℕ) → Tested p (drop k s) true (0 - k)
 tail-start p s k = let e : 0 - k ≡ 0 = omega arith in rw e (test-start p (drop k s))
 

@@ -8,15 +8,15 @@ use borrow.Rule.Slice.PartMut.{putMid, postOf, take-put}
 use lib.ListN.{length, getD, take, drop}
 use lib.Seq.{length-take-le, take-append-le, drop-at}
 use lib.Dec.{T}
-use Rattle.model.specs.Lists.{all, gather}
-use Rattle.model.specs.Sets.{sort}
+use Rattle.model.specs.Lists.{all, gather, _∈_}
+use Rattle.model.specs.Sets.{sort, sorted}
 use Rattle.model.specs.Label.{dominates}
 use Rattle.model.specs.Path.{Step, isPrefix}
 use Rattle.model.specs.Element.{Element, rank}
 use Rattle.model.specs.Model.{openModel, ownSet}
 use Rattle.model.proofs.Bools.{decide, cond-yes, cond-no}
-use Rattle.model.proofs.Members.{_∈_, keep-in, gather-in, gather-append}
-use Rattle.model.proofs.Order.{sorted, ascending-sorted, sorted-keep, sorted-sort, sort-in, sort-sorted, sort-join}
+use Rattle.model.proofs.Members.{keep-in, gather-in, gather-append}
+use Rattle.model.proofs.Order.{ascending-sorted, sorted-keep, sorted-sort, sort-in, sort-sorted, sort-join}
 use Rattle.model.proofs.Keeps.{open-valid}
 use Rattle.model.proofs.Marks.{own-same, own-one}
 use Rattle.order.specs.Refs.{elementOf, refers, Refers, seenAt, rising, orderedOf, Runs}

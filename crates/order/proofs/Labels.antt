@@ -9,10 +9,10 @@ use lib.ListN.{length, take, drop, length-drop, take-append-drop}
 use lib.Seq.{take-length, length-take-le}
 use lib.Dec.{T, ltb}
 use mir.Facts.{ltb-yes}
-use Rattle.model.specs.Lists.{all, keep, gather}
+use Rattle.model.specs.Lists.{all, keep, gather, _∈_}
 use Rattle.model.proofs.Bools.{and-l, and-r, both, decide, cond-yes, cond-no}
 use Rattle.model.proofs.Lists.{all-take}
-use Rattle.model.proofs.Members.{_∈_, all-in, in-back}
+use Rattle.model.proofs.Members.{all-in, in-back}
 use Rattle.order.specs.Refs.{rising}
 
 -- ---- rising numbers

@@ -9,11 +9,11 @@ use lib.Seq.{drop-cons}
 use native.Mathlib.Decide.{decLe}
 use lib.Dec.{T}
 use Rattle.model.specs.Lists.{all}
-use Rattle.model.specs.Sets.{sort}
+use Rattle.model.specs.Sets.{sort, isBefore, ahead, sorted}
 use Rattle.model.specs.Element.{Element, rank}
 use Rattle.model.proofs.Bools.{and-l, and-r, both}
 use Rattle.model.proofs.Lists.{all-append}
-use Rattle.model.proofs.Order.{isBefore, ahead, sorted, ahead-trans, sort-first, sort-behind}
+use Rattle.model.proofs.Order.{ahead-trans, sort-first, sort-behind}
 use Rattle.order.specs.Refs.{elementOf, refers, Refers, Runs, Takes}
 use Rattle.order.proofs.Naming.{first-valid, second-valid}
 

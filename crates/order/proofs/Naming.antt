@@ -15,7 +15,7 @@ use Rattle.model.specs.Partition.{partitionSize, count, slotAt}
 use Rattle.model.specs.Store.{partition}
 use Rattle.model.proofs.Bools.{and-l, and-r, decide}
 use Rattle.model.proofs.Lists.{all-getD}
-use Rattle.model.proofs.Members.{_∈_}
+use Rattle.model.specs.Lists.{_∈_}
 use Rattle.model.proofs.Order.{precedes-total}
 use Rattle.path.specs.Common.{isBefore, Compared}
 use Rattle.slot.specs.Slot.{Readable}

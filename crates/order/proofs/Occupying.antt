@@ -15,12 +15,13 @@ use Rattle.model.specs.Label.{labels, dominates}
 use Rattle.model.specs.Path.{Step, isPrefix}
 use Rattle.model.specs.Element.{Element, rank}
 use Rattle.model.specs.Model.{openModel, ownSet}
+use Rattle.model.specs.View.{visible, seenBelow}
 use Rattle.model.proofs.Bools.{decide, cond-no, is-true}
 use Rattle.model.proofs.Lists.{range-last, range-split}
-use Rattle.model.proofs.Members.{keep-append}
+use Rattle.model.proofs.Members.{keep-append, keep-gather}
 use Rattle.model.proofs.Dominance.{label-lt, dominates-le}
 use Rattle.store.specs.Opened.{Opened, belowAt}
-use Rattle.order.specs.Refs.{Refers, seenAt, rising, orderedOf, ordered}
+use Rattle.order.specs.Refs.{Refers, seenAt, rising, orderedOf}
 use Rattle.order.proofs.Labels.{rising-keep, gather-keep}
 
 -- ---- what they stand for
@@ -32,12 +33,13 @@ keep-nothing q (e ∷ es) t =
     cond-no (q e) (e ∷ keep q es) (keep q es) (r .0) ∙ keep-nothing q es (r .1)
 
 -- their elements are all that the subject sees
-occupied-all : (s : ℕ) (b : List ℕ) (p : List Step) → orderedOf s b p (keep (belowAt s b p) labels) ≡ ordered s b p
-unfolding orderedOf seenAt
+occupied-all : (s : ℕ) (b : List ℕ) (p : List Step) → orderedOf s b p (keep (belowAt s b p) labels) ≡ seenBelow s (openModel b) p
+unfolding orderedOf seenAt visible
 occupied-all s b p =
     ap (sort rank)
     (gather-keep (seenAt s b p) (belowAt s b p)
-    (λ n t. keep-nothing (λ e. isPrefix p (e .path)) (cond (dominates s n) (ownSet n (openModel b)) []) t) labels)
+    (λ n t. keep-nothing (λ e. isPrefix p (e .path)) (cond (dominates s n) (ownSet n (openModel b)) []) t) labels
+    ∙ keep-gather (λ e. isPrefix p (e .path)) (λ n. cond (dominates s n) (ownSet n (openModel b)) []) labels)
 
 -- ---- found one after another
 
@@ -138,5 +140,5 @@ module _ (s : ℕ) (b : List ℕ) (p : List Step) (found : List ℕ) {r : ℕ} (
   found-few = let l = length-take (r - 0) found in omega arith
 
   -- the elements of the labels found are all that the subject sees
-  pub found-all : {rs : List ℕ} → Refers s b rs (orderedOf s b p (take (r - 0) found)) → Refers s b rs (ordered s b p)
+  pub found-all : {rs : List ℕ} → Refers s b rs (orderedOf s b p (take (r - 0) found)) → Refers s b rs (seenBelow s (openModel b) p)
   found-all q = record { valid = q .valid; named = q .named ∙ ap (orderedOf s b p) found-is ∙ occupied-all s b p }

@@ -5,9 +5,9 @@ use mathlib.Core.List.{List, [], _∷_, map}
 use Prim.Native.Nat.{ℕ, _/_, _%_, _<_}
 use lib.ListN.{length, getD}
 use lib.Dec.{T, ltb}
-use Rattle.model.specs.Lists.{all, keep, gather}
-use Rattle.model.specs.Sets.{sort}
-use Rattle.model.specs.Label.{labels, dominates}
+use Rattle.model.specs.Lists.{all, keep, gather, _∈_}
+use Rattle.model.specs.Sets.{sort, sorted}
+use Rattle.model.specs.Label.{dominates}
 use Rattle.model.specs.Path.{Step, isPrefix}
 use Rattle.model.specs.Element.{Element, rank}
 use Rattle.model.specs.Slot.{readSlot}
@@ -15,8 +15,6 @@ use Rattle.model.specs.Partition.{count, slotAt}
 use Rattle.model.specs.Store.{partition}
 use Rattle.model.specs.Model.{openModel, ownSet}
 use Rattle.path.specs.Common.{isBefore}
-use Rattle.model.proofs.Members.{_∈_}
-use Rattle.model.proofs.Order.{sorted}
 
 -- ---- a reference is 32 × label + slot
 
@@ -49,10 +47,6 @@ rising (n ∷ l) = all (ltb n) l && rising l
 -- those of some labels, in path order
 unfoldable pub orderedOf : ℕ → List ℕ → List Step → List ℕ → List Element
 orderedOf s b p ls = sort rank (gather (seenAt s b p) ls)
-
--- those of all labels, in path order
-abbrev pub ordered : ℕ → List ℕ → List Step → List Element
-ordered s b p = orderedOf s b p labels
 
 -- ---- two runs to be merged: each ascends, and no rank is in both
 pub record Runs (s : ℕ) (b : List ℕ) (xs ys : List ℕ) : Type 0 where

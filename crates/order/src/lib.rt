@@ -12,11 +12,13 @@ ghost use Rattle.model.specs.Sets.{sort};
 ghost use Rattle.model.specs.Path.{stepsOf};
 ghost use Rattle.model.specs.Element.{rank};
 ghost use Rattle.model.specs.Partition.{readPartition};
+ghost use Rattle.model.specs.Model.{openModel};
+ghost use Rattle.model.specs.View.{seenBelow};
 ghost use Rattle.model.specs.Call.{extending};
 ghost use Rattle.slot.specs.Slot.{Readable};
 ghost use Rattle.partition.specs.Place.{Formed, placeOf};
 ghost use Rattle.store.specs.Opened.{Opened};
-ghost use Rattle.order.specs.Refs.{slotOf, elementOf, refers, Refers, seenAt, rising, orderedOf, ordered, Runs, Takes};
+ghost use Rattle.order.specs.Refs.{slotOf, elementOf, refers, Refers, seenAt, rising, orderedOf, Runs, Takes};
 
 // The slot that a reference names: 32 × label + slot.
 pub fn slot_of(store: &[u8], subject: u8, r: u16) -> &[u8]
@@ -160,7 +162,7 @@ fn order_labels(
 // The references of the elements that the subject sees and that have the path or extend it, in path order: how many.
 pub fn order(store: &[u8], subject: u8, path: &[u8], refs: &mut [u16], spare: &mut [u16]) -> usize
     requires { ⌜ Opened (now store) subject × (1024 ≤ length (now refs)) × (1024 ≤ length (now spare)) ⌝ }
-    ensures { λ r. ⌜ Refers subject (now (store .entry)) (take r (now (refs .exit))) (ordered subject (now (store .entry)) (stepsOf (now (path .entry)))) ⌝ }
+    ensures { λ r. ⌜ Refers subject (now (store .entry)) (take r (now (refs .exit))) (seenBelow subject (openModel (now (store .entry))) (stepsOf (now (path .entry)))) ⌝ }
     ensures { λ r. ⌜ r ≤ 1024 ⌝ }
 {
     let mut labels = [0u8; 32];

@@ -1,6 +1,6 @@
 -- A partition checked slot by slot.
 use mathlib.Core.Path.{_≡_, refl, sym, ap, ap₂, _∙_}
-use mathlib.Core.Bool.{Bool, true, false, not, _&&_, _||_}
+use mathlib.Core.Bool.{Bool, true, false, not, _&&_, _||_, or-false}
 use mathlib.Core.List.{List, [], _∷_, map}
 use Prim.Native.Nat.{ℕ, zero, suc, _+_, _-_, _≤_, _<_}
 use native.Mathlib.Omega.{arith}
@@ -25,6 +25,7 @@ use Rattle.path.proofs.Common.{common-first, common-parent}
 use Rattle.slot.specs.Slot.{Readable}
 use Rattle.slot_valid.specs.Valid.{validSlot}
 use Rattle.slot.proofs.Reading.{length-path}
+use Rattle.octets.proofs.Quarters.{crossed}
 use Rattle.partition.specs.Linked.{mayFollow, linked, goodSlot, goodSlots, pathBefore}
 use Rattle.partition.proofs.Linking.{linked-is}
 
@@ -36,6 +37,7 @@ module _ (b : List ℕ) (n : ℕ) {d : ℕ} (e : (d ≡ depth b) × (d < 256)) w
   unfolding readPath
   cut = ap (λ (c : ℕ). endsIn n (parent (range (stepAt b) 0 c))) (e .0)
 
+  -- a path of fewer than two steps has no parent that ends in a label
   pub no-parent : d < 2 → false ≡ endsIn n (parent (readPath b))
   no-parent h = go d h ∙ cut
     where
@@ -44,6 +46,7 @@ module _ (b : List ℕ) (n : ℕ) {d : ℕ} (e : (d ≡ depth b) × (d < 256)) w
       go (suc zero) k = refl
       go (suc (suc c)) k = absurd (omega arith)
 
+  -- a longer path's parent ends in the label of its last step but one
   pub parent-ends : 2 ≤ d → {l : ℕ} → l ≡ stepAt b (d - 2) .label → eqb l n ≡ endsIn n (parent (readPath b))
   parent-ends h {l} f = go (d - 2) (omega arith) f ∙ cut
     where
@@ -58,6 +61,7 @@ module _ (b : List ℕ) (n : ℕ) {d : ℕ} (e : (d ≡ depth b) × (d < 256)) w
 -- ---- a slot after another
 
 module _ (n : ℕ) (a b : List ℕ) {s : ℕ} {t : Bool} (m : Compared (readPath a) (readPath b) s t) where
+  -- where a's path does not come before b's, b may not follow a
   pub not-after : not t ≡ true → false ≡ mayFollow n (readPath a) (readPath b)
   unfolding mayFollow
   not-after h = let q : isBefore (readPath a) (readPath b) ≡ false = sym (m .before-is) ∙ not-true t h in rw q
@@ -66,10 +70,12 @@ module _ (n : ℕ) (a b : List ℕ) {s : ℕ} {t : Bool} (m : Compared (readPath
     order : isBefore (readPath a) (readPath b) ≡ true
     order = sym (m .before-is) ∙ not-false t after
 
+    -- where it does and b's parent does not end in n, b may follow
     pub free-parent : not r ≡ true → true ≡ mayFollow n (readPath a) (readPath b)
     unfolding mayFollow
     free-parent h = let q : endsIn n (parent (readPath b)) ≡ false = sym f ∙ not-true r h in rw (order, q)
 
+    -- where b's parent ends in n, b may follow if all its steps but the last are shared
     pub shared-parent : not r ≡ false → {d : ℕ} → (d ≡ depth b) × (d < 256) → leb d (s + 1) ≡ mayFollow n (readPath a) (readPath b)
     unfolding mayFollow
     shared-parent h {d} e =
@@ -93,59 +99,8 @@ unfolding goodSlot validSlot readSlot
 good-all n p [] = refl
 good-all n p (b ∷ bs) =
     ap (λ (x : Bool). goodSlot n p b && x) (good-all n (readPath b) bs)
-    ∙ regroup (validElement n (readSlot b)) (unusedZero b) (mayFollow n p (readPath b)) (all (validElement n) (map readSlot bs)) (all unusedZero bs) (linked n (readPath b) (map readSlot bs))
-  where
-    regroup : (v u m vs us ms : Bool) → (((v && u) && m) && ((vs && us) && ms)) ≡ (((v && vs) && (u && us)) && (m && ms))
-    regroup false u m vs us ms = refl
-    regroup true false m vs us ms = none vs
-      where
-        none : (x : Bool) → false ≡ ((x && false) && (m && ms))
-        none true = refl
-        none false = refl
-    regroup true true false vs us ms = none (vs && us)
-      where
-        none : (x : Bool) → false ≡ (x && false)
-        none true = refl
-        none false = refl
-    regroup true true true vs us ms = refl
-
--- what is tested before the slots
-pub record Framed (n : ℕ) (b : List ℕ) : Type 0 where
-  pub size : length b ≡ partitionSize
-  pub bytes : T (all isByte b)
-  pub label : T (isLabel n)
-  pub few : count b ≤ 32
-  pub head : T (allZero (between 1 slotsAt b))
-  pub spare : T (allZero (between (slotStart (count b)) partitionSize b))
-
-pub formed-by-slots : (n : ℕ) (b : List ℕ) → Framed n b → goodSlots n [] (slots b) ≡ wellFormed n b
-unfolding readPartition
-formed-by-slots n b f =
-    same-test (goodSlots n [] (slots b)) (wellFormed n b)
-    (λ (t : T (goodSlots n [] (slots b))).
-    let u : T (all (validElement n) (readPartition b) && all unusedZero (slots b) && linked n [] (readPartition b)) = rw (good-all n [] (slots b)) at t in
-    let v : T (all (validElement n) (readPartition b)) = search (and-l, and-r) in
-    let k : T (linked n [] (readPartition b)) = search (and-l, and-r) in
-    let l : T (ascending rank (readPartition b) && closed n (readPartition b)) = rw (linked-is n (readPartition b) (f .label) v) k in
-    yes-well-formed key n b
-    (record {
-      size = f .size;
-      bytes = f .bytes;
-      few = f .few;
-      valid = v;
-      unused = search (and-l, and-r);
-      ascends = search (and-l, and-r);
-      spare = f .spare;
-      head = f .head;
-      closes = search (and-l, and-r);
-    }))
-    (λ (t : T (wellFormed n b)).
-    let w : WellFormed key n b = well-formed key n b t in
-    let k : T (linked n [] (readPartition b)) =
-    rw (linked-is n (readPartition b) (f .label) (w .valid)) at (both (ascending rank (readPartition b)) (closed n (readPartition b)) (w .ascends) (w .closes)) in
-    rw (good-all n [] (slots b))
-    (both (all (validElement n) (readPartition b) && all unusedZero (slots b)) (linked n [] (readPartition b))
-    (both (all (validElement n) (readPartition b)) (all unusedZero (slots b)) (w .valid) (w .unused)) k))
+    ∙ crossed (validElement n (readSlot b) && unusedZero b) (mayFollow n p (readPath b)) (all (validElement n) (map readSlot bs) && all unusedZero bs) (linked n (readPath b) (map readSlot bs))
+    ∙ ap (λ (x : Bool). x && linked n p (map readSlot (b ∷ bs))) (crossed (validElement n (readSlot b)) (unusedZero b) (all (validElement n) (map readSlot bs)) (all unusedZero bs))
 
 falsely : (r x : Bool) → r ≡ x → not r ≡ true → T x → ⊥
 falsely r x e t h = let f : x ≡ false = sym e ∙ not-true r t in rw f at h
@@ -158,31 +113,54 @@ module _ (n : ℕ) (b : List ℕ) where
   refuted : (WellFormed key n b → ⊥) → false ≡ wellFormed n b
   refuted h = sym (is-false (wellFormed n b) (not-T (wellFormed n b) (λ t. h (well-formed key n b t))))
 
+  -- a count over 32
   pub too-many : 32 < count b → false ≡ wellFormed n b
   too-many h = refuted (λ w. omega (arith, w .few))
 
+  -- a byte behind the count that is not zero
   pub head-used : {r : Bool} → r ≡ allZero (between 1 slotsAt b) → not r ≡ true → false ≡ wellFormed n b
   head-used {r} e t = refuted (λ w. falsely r (allZero (between 1 slotsAt b)) e t (w .head))
 
+  -- a byte behind the used slots that is not zero
   pub spare-used : {c : ℕ} {r : Bool} → (c ≡ count b) × (c < 256) → r ≡ allZero (between (slotStart c) partitionSize b) → not r ≡ true → false ≡ wellFormed n b
   spare-used {c} {r} f e t = refuted (λ w. falsely r (allZero (between (slotStart c) partitionSize b)) e t (rw (f .0) (w .spare)))
 
-pub framed : (n : ℕ) (b : List ℕ) {c : ℕ} {r s : Bool} → length b ≡ partitionSize → T (all isByte b) → n < 32 → (c ≡ count b) × (c < 256) → c ≤ 32
-    → r ≡ allZero (between 1 slotsAt b) → not r ≡ false → s ≡ allZero (between (slotStart c) partitionSize b) → not s ≡ false → Framed n b
-unfolding isLabel
-framed n b {c} {r} {s} z y l e h f t g u =
-    record {
-      size = z;
-      bytes = y;
-      label = yes-ltb l;
+-- where all this is found, the slots decide
+pub formed-by-slots : (n : ℕ) (b : List ℕ) {c : ℕ} {r s : Bool} → length b ≡ partitionSize → T (all isByte b) → n < 32 → (c ≡ count b) × (c < 256) → c ≤ 32
+    → r ≡ allZero (between 1 slotsAt b) → not r ≡ false → s ≡ allZero (between (slotStart c) partitionSize b) → not s ≡ false
+    → goodSlots n [] (slots b) ≡ wellFormed n b
+unfolding readPartition isLabel
+formed-by-slots n b {c} {r} {s} size bytes small e few f t g u =
+    same-test (goodSlots n [] (slots b)) (wellFormed n b)
+    (λ (h : T (goodSlots n [] (slots b))).
+    let a : T (all (validElement n) (readPartition b) && all unusedZero (slots b) && linked n [] (readPartition b)) = rw (good-all n [] (slots b)) at h in
+    let v : T (all (validElement n) (readPartition b)) = search (and-l, and-r) in
+    let k : T (linked n [] (readPartition b)) = search (and-l, and-r) in
+    let l : T (ascending rank (readPartition b) && closed n (readPartition b)) = rw (linked-is n (readPartition b) (yes-ltb small) v) k in
+    yes-well-formed key n b
+    (record {
+      size = size;
+      bytes = bytes;
       few = omega arith;
-      head = truly r (allZero (between 1 slotsAt b)) f t;
+      valid = v;
+      unused = search (and-l, and-r);
+      ascends = search (and-l, and-r);
       spare = rw (← (e .0)) (truly s (allZero (between (slotStart c) partitionSize b)) g u);
-    }
+      head = truly r (allZero (between 1 slotsAt b)) f t;
+      closes = search (and-l, and-r);
+    }))
+    (λ (h : T (wellFormed n b)).
+    let w : WellFormed key n b = well-formed key n b h in
+    let k : T (linked n [] (readPartition b)) =
+    rw (linked-is n (readPartition b) (yes-ltb small) (w .valid)) at (both (ascending rank (readPartition b)) (closed n (readPartition b)) (w .ascends) (w .closes)) in
+    rw (good-all n [] (slots b))
+    (both (all (validElement n) (readPartition b) && all unusedZero (slots b)) (linked n [] (readPartition b))
+    (both (all (validElement n) (readPartition b)) (all unusedZero (slots b)) (w .valid) (w .unused)) k))
 
 -- ---- one slot
 
-pub valid-steps : (n : ℕ) (b : List ℕ) → T (validSlot n b) → depth b ≤ 6
+-- a valid slot has at most six steps
+valid-steps : (n : ℕ) (b : List ℕ) → T (validSlot n b) → depth b ≤ 6
 unfolding validSlot readSlot
 valid-steps n b t =
     let f : Fits (readSlot b) = valid-fits n (readSlot b) (and-l (validElement n (readSlot b)) (unusedZero b) t) in
@@ -200,14 +178,11 @@ root-follow n (a ∷ q) h = go (parent (a ∷ q))
   where
     go : (r : List Step) → (not (endsIn n r) || isPrefix r []) ≡ not (endsIn n r)
     go [] = refl
-    go (c ∷ r) = free (not (endsIn n (c ∷ r)))
-      where
-        free : (x : Bool) → (x || false) ≡ x
-        free true = refl
-        free false = refl
+    go (c ∷ r) = or-false (not (endsIn n (c ∷ r)))
 
 -- slot x of the partition, found valid or not
 module _ (n : ℕ) {x b : List ℕ} {v : Bool} (e : (x ≡ b) × (length x ≡ slotSize)) (f : v ≡ validSlot n x) where
+  -- a slot that is not valid is not good
   pub slot-bad : (p : List Step) → not v ≡ true → false ≡ goodSlot n p b
   unfolding goodSlot
   slot-bad p t = let q : validSlot n b ≡ false = ap (validSlot n) (sym (e .0)) ∙ sym f ∙ not-true v t in rw q
@@ -216,6 +191,7 @@ module _ (n : ℕ) {x b : List ℕ} {v : Bool} (e : (x ≡ b) × (length x ≡ s
     valid : T (validSlot n x)
     valid = truly v (validSlot n x) f yes
 
+    -- a valid slot can be read
     pub slot-readable : Readable x
     slot-readable = record { size = e .1; steps = valid-steps n x valid }
 
@@ -223,9 +199,11 @@ module _ (n : ℕ) {x b : List ℕ} {v : Bool} (e : (x ≡ b) × (length x ≡ s
     unfolding goodSlot
     goes p = rw (← (e .0), is-true (validSlot n x) valid)
 
+    -- the first slot is good where its parent does not end in n
     pub first-slot : (c : List ℕ) {i : ℕ} {r : Bool} → i ≡ 0 → r ≡ endsIn n (parent (readPath x)) → not r ≡ goodSlot n (pathBefore c i) b
     first-slot c h g = ap not g ∙ sym (root-follow n (readPath x) (valid-some n x valid)) ∙ sym (ap (λ (k : ℕ). goodSlot n (pathBefore c k) b) h ∙ goes [])
 
+    -- a later slot is good where it may follow the slot before
     pub later-slot : (c : List ℕ) {i : ℕ} {y : List ℕ} {r : Bool} → (i ≡ 0 → ⊥) → (y ≡ slotAt c (i - 1)) × (length y ≡ slotSize)
         → r ≡ mayFollow n (readPath y) (readPath x) → r ≡ goodSlot n (pathBefore c i) b
     later-slot c {i} {y} {r} h d g = go (i - 1) (omega arith) (d .0)
@@ -240,11 +218,13 @@ before-readable c {i} h d f = record { size = d .1; steps = rw (d .0) (f (i - 1)
 
 -- ---- the loop over the slots
 
+-- the slots before slot i are good, and the whole is if those from i on are
 pub record Linking (b : List ℕ) (n c i : ℕ) : Type 0 where
   pub within : i ≤ c
   pub deep : (k : ℕ) → k + 1 ≡ i → depth (slotAt b k) ≤ 6
   pub same : goodSlots n [] (slots b) ≡ goodSlots n (pathBefore b i) (rest (slotAt b) c i)
 
+-- so it is at the first slot
 pub link-start : (b : List ℕ) (n : ℕ) {c : ℕ} → c ≡ count b → Linking b n c 0
 unfolding slots
 link-start b n {c} e =
@@ -256,16 +236,22 @@ link-start b n {c} e =
     }
 
 module _ {b : List ℕ} {n c i : ℕ} (inv : Linking b n c i) where
+  -- where no slot is left, all are good
   pub link-end : c ≤ i → true ≡ goodSlots n [] (slots b)
   link-end h = sym (inv .same ∙ ap (goodSlots n (pathBefore b i)) (rest-end (slotAt b) c i h))
 
   module _ {r : Bool} (h : i < c) (e : r ≡ goodSlot n (pathBefore b i) (slotAt b i)) where
-    here : goodSlots n [] (slots b) ≡ (r && goodSlots n (readPath (slotAt b i)) (rest (slotAt b) c (i + 1)))
-    here = inv .same ∙ ap (goodSlots n (pathBefore b i)) (rest-more (slotAt b) c i h) ∙ ap (λ (x : Bool). x && goodSlots n (readPath (slotAt b i)) (rest (slotAt b) c (i + 1))) (sym e)
+    here : (t : Bool) → r ≡ t → goodSlots n [] (slots b) ≡ (t && goodSlots n (readPath (slotAt b i)) (rest (slotAt b) c (i + 1)))
+    here t f =
+        inv .same
+        ∙ ap (goodSlots n (pathBefore b i)) (rest-more (slotAt b) c i h)
+        ∙ ap (λ (x : Bool). x && goodSlots n (readPath (slotAt b i)) (rest (slotAt b) c (i + 1))) (sym e ∙ f)
 
+    -- where slot i is not good, not all are
     pub link-fails : not r ≡ true → false ≡ goodSlots n [] (slots b)
-    link-fails t = sym (here ∙ ap (λ (x : Bool). x && goodSlots n (readPath (slotAt b i)) (rest (slotAt b) c (i + 1))) (not-true r t))
+    link-fails t = sym (here false (not-true r t))
 
+    -- where it is, so it is at the next slot
     pub link-next : not r ≡ false → Linking b n c (i + 1)
     unfolding goodSlot
     link-next t =
@@ -274,5 +260,5 @@ module _ {b : List ℕ} {n c i : ℕ} (inv : Linking b n c i) where
         record {
           within = omega arith;
           deep = λ k q. let s : k ≡ i = omega arith in rw s (valid-steps n (slotAt b i) (and-l (validSlot n (slotAt b i)) _ g));
-          same = here ∙ ap (λ (x : Bool). x && goodSlots n (readPath (slotAt b i)) (rest (slotAt b) c (i + 1))) (not-false r t) ∙ ap (λ (m : ℕ). goodSlots n (pathBefore b m) (rest (slotAt b) c (i + 1))) (sym z);
+          same = here true (not-false r t) ∙ ap (λ (m : ℕ). goodSlots n (pathBefore b m) (rest (slotAt b) c (i + 1))) (sym z);
         }

@@ -3,8 +3,8 @@ use mathlib.Core.Path.{_≡_, refl, sym, ap, ap₂, _∙_}
 use mathlib.Core.List.{List, [], _∷_, _++_, append-assoc, append-nil}
 use Prim.Native.Nat.{ℕ, zero, suc, _+_, _-_, _*_, _%_, _≤_, _<_}
 use native.Mathlib.Omega.{arith}
-use lib.ListN.{length, take, drop, set, replicate, length-append, length-drop, drop-of-length-le, replicate-append-replicate}
-use lib.Seq.{take-all, take-at, drop-at, drop-drop, length-take-le, take-append-add, drop-append-add}
+use lib.ListN.{length, take, drop, set, replicate, length-append, length-drop, drop-of-length-le, take-append-drop, replicate-append-replicate}
+use lib.Seq.{take-all, take-at, drop-at, drop-drop, length-take-le, take-append-add}
 use borrow.Rule.Slice.PartMut.{putMid, post-is}
 use Rattle.model.specs.Lists.{gather, pad}
 use Rattle.model.specs.Path.{Step, key}
@@ -13,197 +13,171 @@ use Rattle.model.specs.Element.{Element}
 use Rattle.model.specs.Slot.{kindAt, slotSize, pathBytes, contentBytes, slotBytes}
 use Rattle.model.specs.Partition.{partitionSize, layout, count, slotStart, readPartition}
 use Rattle.model.specs.Call.{added}
-use Rattle.model.proofs.Lists.{length-pad, pad-short, length-range, take-replicate}
+use Rattle.model.proofs.Lists.{length-pad, pad-short, take-replicate}
 use Rattle.model.proofs.Members.{gather-append}
 use Rattle.model.proofs.Slots.{length-slot}
 use Rattle.model.proofs.Partitions.{length-slots, layout-read}
 use Rattle.partition.specs.Place.{Formed, Room, replacedAt}
-use Rattle.partition.proofs.Placing.{place-within, put-place}
-use Rattle.partition.proofs.Finding.{facts, elementAt, elements-range}
+use Rattle.partition.proofs.Placing.{put-place}
+use Rattle.partition.proofs.Finding.{facts, length-read, place-count}
 
 -- the four bytes before the slots
 abbrev head : ℕ → List ℕ
 head c = c ∷ 0 ∷ 0 ∷ 0 ∷ []
 
 -- a set of at most 32 laid out: the head, the slots, zeros
-pub layout-parts : (es : List Element) → length es ≤ 32
+layout-parts : (es : List Element) → length es ≤ 32
     → layout es ≡ head (length es) ++ (gather slotBytes es ++ replicate (1280 - slotSize * length es) 0)
 unfolding layout pad
 layout-parts es h =
     ap (λ (l : List ℕ). head (length es) ++ l)
     (pad-short 1280 (gather slotBytes es) (rw (length-slots es) (omega arith)) ∙ ap (λ (n : ℕ). gather slotBytes es ++ replicate (1280 - n) 0) (length-slots es))
 
--- the first k slots, and the others
-slots-take : (k : ℕ) (es : List Element) (z : List ℕ) → k ≤ length es → take (slotSize * k) (gather slotBytes es ++ z) ≡ gather slotBytes (take k es)
-slots-take zero es z h = refl
-slots-take (suc k) [] z h = absurd (omega arith)
-slots-take (suc k) (e ∷ es) z h =
-    let n : slotSize * suc k ≡ length (slotBytes e) + slotSize * k = omega (arith, length-slot e) in
-    rw (n, append-assoc (slotBytes e) (gather slotBytes es) z) (take-append-add (slotBytes e) (gather slotBytes es ++ z) (slotSize * k) ∙ ap (λ (l : List ℕ). slotBytes e ++ l) (slots-take k es z (omega arith)))
-
-slots-drop : (k : ℕ) (es : List Element) (z : List ℕ) → k ≤ length es → drop (slotSize * k) (gather slotBytes es ++ z) ≡ gather slotBytes (drop k es) ++ z
-slots-drop zero es z h = refl
-slots-drop (suc k) [] z h = absurd (omega arith)
-slots-drop (suc k) (e ∷ es) z h =
-    let n : slotSize * suc k ≡ length (slotBytes e) + slotSize * k = omega (arith, length-slot e) in
-    rw (n, append-assoc (slotBytes e) (gather slotBytes es) z) (drop-append-add (slotBytes e) (gather slotBytes es ++ z) (slotSize * k) ∙ slots-drop k es z (omega arith))
-
--- a layout cut at slot k
-module _ (es : List Element) (few : length es ≤ 32) (k : ℕ) (within : k ≤ length es) where
-  pub layout-front : take (slotStart k) (layout es) ≡ head (length es) ++ gather slotBytes (take k es)
-  layout-front = ap (take (slotStart k)) (layout-parts es few) ∙ take-append-add (head (length es)) _ (slotSize * k) ∙ ap (λ (l : List ℕ). head (length es) ++ l) (slots-take k es _ within)
-
-  pub layout-back : drop (slotStart k) (layout es) ≡ gather slotBytes (drop k es) ++ replicate (1280 - slotSize * length es) 0
-  layout-back = ap (drop (slotStart k)) (layout-parts es few) ∙ drop-append-add (head (length es)) _ (slotSize * k) ∙ slots-drop k es _ within
+-- the elements l and r laid out, n together
+layout-joined : (l r : List Element) (n : ℕ) → length (l ++ r) ≡ n → n ≤ 32
+    → layout (l ++ r) ≡ (head n ++ gather slotBytes l) ++ (gather slotBytes r ++ replicate (1280 - slotSize * n) 0)
+layout-joined l r n e h =
+    layout-parts (l ++ r) (omega arith)
+    ∙ ap₂ (λ (m : ℕ) (s : List ℕ). head m ++ (s ++ replicate (1280 - slotSize * m) 0)) e (gather-append slotBytes l r)
+    ∙ ap (λ (s : List ℕ). head n ++ s) (append-assoc (gather slotBytes l) (gather slotBytes r) (replicate (1280 - slotSize * n) 0))
 
 -- ---- a well-formed partition
 
 module _ {b : List ℕ} (f : Formed b) where
-  pub is-layout : b ≡ layout (readPartition b)
-  is-layout = sym (layout-read key (f .label) b (facts f))
-
+  -- it has as many elements as its count says
   pub length-elements : length (readPartition b) ≡ count b
-  length-elements = ap length (elements-range b) ∙ length-range (elementAt b) 0 (count b)
-
-  pub few-elements : length (readPartition b) ≤ 32
-  few-elements = rw length-elements (facts f .few)
+  length-elements = length-read b
 
   -- cut at slot k
   module _ (k : ℕ) (within : k ≤ count b) where
-    here : k ≤ length (readPartition b)
-    here = rw length-elements within
+    length-first : length (take k (readPartition b)) ≡ k
+    length-first = length-take-le k (readPartition b) (omega (arith, length-read b))
 
-    pub front : take (slotStart k) b ≡ head (count b) ++ gather slotBytes (take k (readPartition b))
-    front =
-        ap (take (slotStart k)) is-layout
-        ∙ layout-front (readPartition b) few-elements k here
-        ∙ ap (λ (n : ℕ). head n ++ gather slotBytes (take k (readPartition b))) length-elements
+    length-others : length (drop k (readPartition b)) ≡ count b - k
+    length-others = length-drop k (readPartition b) ∙ ap (λ (n : ℕ). n - k) (length-read b)
 
-    pub back : drop (slotStart k) b ≡ gather slotBytes (drop k (readPartition b)) ++ replicate (1280 - slotSize * count b) 0
-    back =
-        ap (drop (slotStart k)) is-layout
-        ∙ layout-back (readPartition b) few-elements k here
-        ∙ ap (λ (n : ℕ). gather slotBytes (drop k (readPartition b)) ++ replicate (1280 - slotSize * n) 0) length-elements
+    -- the bytes before slot k, and those from it on
+    bytes-before : List ℕ
+    bytes-before = head (count b) ++ gather slotBytes (take k (readPartition b))
+
+    length-bytes-before : length bytes-before ≡ slotStart k
+    unfolding bytes-before
+    length-bytes-before = simp length-slots (omega (arith, length-first))
+
+    bytes-from : List ℕ
+    bytes-from = gather slotBytes (drop k (readPartition b)) ++ replicate (1280 - slotSize * count b) 0
+
+    parts : b ≡ bytes-before ++ bytes-from
+    unfolding bytes-before bytes-from
+    parts =
+        sym (layout-read key (f .label) b (facts f))
+        ∙ ap layout (sym (take-append-drop k (readPartition b)))
+        ∙ layout-joined (take k (readPartition b)) (drop k (readPartition b)) (count b) (ap length (take-append-drop k (readPartition b)) ∙ length-read b) (facts f .few)
+
+    front : take (slotStart k) b ≡ head (count b) ++ gather slotBytes (take k (readPartition b))
+    unfolding bytes-before
+    front = ap (take (slotStart k)) parts ∙ take-at bytes-before bytes-from (slotStart k) length-bytes-before
+
+    back : drop (slotStart k) b ≡ gather slotBytes (drop k (readPartition b)) ++ replicate (1280 - slotSize * count b) 0
+    unfolding bytes-from
+    back = ap (drop (slotStart k)) parts ∙ drop-at bytes-before bytes-from (slotStart k) length-bytes-before
 
     -- the part from slot k on, as it is lent
-    pub lent : take (partitionSize - slotStart k) (drop (slotStart k) b) ≡ drop (slotStart k) b
+    lent : take (partitionSize - slotStart k) (drop (slotStart k) b) ≡ drop (slotStart k) b
     lent = take-all (partitionSize - slotStart k) (drop (slotStart k) b) (rw (length-drop (slotStart k) b) (omega (arith, facts f .size)))
 
+    -- and its length
     pub lent-size : length (take (partitionSize - slotStart k) (drop (slotStart k) b)) ≡ partitionSize - slotStart k
     lent-size = ap length lent ∙ length-drop (slotStart k) b ∙ ap (λ (n : ℕ). n - slotStart k) (facts f .size)
 
-    pub put-back : (y : List ℕ) → putMid (slotStart k) (partitionSize - slotStart k) b y ≡ take (slotStart k) b ++ y
+    put-back : (y : List ℕ) → putMid (slotStart k) (partitionSize - slotStart k) b y ≡ take (slotStart k) b ++ y
     put-back y =
         let n : slotStart k ≤ partitionSize = omega (arith, facts f .few) in
-        let l : length b ≤ partitionSize = omega (arith, facts f .size) in
-        let z : drop partitionSize b ≡ [] = drop-of-length-le b l in
+        let z : drop partitionSize b ≡ [] = drop-of-length-le b {i = partitionSize} (omega (arith, facts f .size)) in
         rw (post-is (slotStart k) partitionSize b n, z, append-nil y)
 
 -- ---- slots taken out
 
 module _ {b : List ℕ} (f : Formed b) (at k : ℕ) (within : at + k ≤ count b) where
-  es : List Element
-  es = readPartition b
-
-  left : List Element
-  left = take at es ++ drop (at + k) es
-
-  length-left : length left ≡ count b - k
-  unfolding left es
-  length-left =
-      length-append (take at (readPartition b)) (drop (at + k) (readPartition b))
-      ∙ ap₂ (λ (x y : ℕ). x + y) (length-take-le at (readPartition b) (rw (length-elements f) (omega arith)))
-      (length-drop (at + k) (readPartition b) ∙ ap (λ (n : ℕ). n - (at + k)) (length-elements f))
-      ∙ omega arith
-
-  -- what moves up to slot at
-  moved : {y : List ℕ} → y ≡ drop (slotSize * k) (take (partitionSize - slotStart at) (drop (slotStart at) b)) ++ replicate (slotSize * k) 0
-      → y ≡ gather slotBytes (drop (at + k) es) ++ replicate (1280 - slotSize * (count b - k)) 0
-  unfolding es
-  moved e =
-      let h : k ≤ length (drop at (readPartition b)) = rw (length-drop at (readPartition b), length-elements f) (omega arith) in
-      let n : 1280 - slotSize * count b + slotSize * k ≡ 1280 - slotSize * (count b - k) = omega (arith, facts f .few) in
-      e
-      ∙ ap (λ (l : List ℕ). drop (slotSize * k) l ++ replicate (slotSize * k) 0) (lent f at (omega arith) ∙ back f at (omega arith))
-      ∙ ap (λ (l : List ℕ). l ++ replicate (slotSize * k) 0) (slots-drop k (drop at (readPartition b)) (replicate (1280 - slotSize * count b) 0) h)
-      ∙ append-assoc (gather slotBytes (drop k (drop at (readPartition b)))) (replicate (1280 - slotSize * count b) 0) (replicate (slotSize * k) 0)
-      ∙ ap₂ (λ (ds : List Element) (l : List ℕ). gather slotBytes ds ++ l) (drop-drop k at (readPartition b))
-      (replicate-append-replicate (1280 - slotSize * count b) (slotSize * k) 0 ∙ ap (λ (m : ℕ). replicate m 0) n)
-
+  -- what the bytes then lay out
   pub taken-out : {y : List ℕ} → y ≡ drop (slotSize * k) (take (partitionSize - slotStart at) (drop (slotStart at) b)) ++ replicate (slotSize * k) 0
       → set (putMid (slotStart at) (partitionSize - slotStart at) b y) 0 (count b - k % 256)
       ≡ layout (take at (readPartition b) ++ drop (at + k) (readPartition b))
-  unfolding left es
   taken-out {y} e =
+      let l : List Element = take at (readPartition b) in
+      let r : List Element = drop (at + k) (readPartition b) in
+      let first : at ≤ count b = omega arith in
       let m : k % 256 ≡ k = omega (arith, facts f .few) in
-      ap (λ (l : List ℕ). set l 0 (count b - k % 256))
-      (put-back f at (omega arith) y ∙ ap₂ (λ (u v : List ℕ). u ++ v) (front f at (omega arith)) (moved e))
-      ∙ ap (λ (n : ℕ). head (count b - n) ++ (gather slotBytes (take at es) ++ (gather slotBytes (drop (at + k) es) ++ replicate (1280 - slotSize * (count b - k)) 0))) m
-      ∙ sym
-      (layout-parts left (rw length-left (omega (arith, facts f .few)))
-      ∙ ap₂ (λ (n : ℕ) (l : List ℕ). head n ++ (l ++ replicate (1280 - slotSize * n) 0)) length-left (gather-append slotBytes (take at es) (drop (at + k) es))
-      ∙ ap (λ (l : List ℕ). head (count b - k) ++ l) (append-assoc (gather slotBytes (take at es)) (gather slotBytes (drop (at + k) es)) _))
+      let n : 1280 - slotSize * count b + slotSize * k ≡ 1280 - slotSize * (count b - k) = omega (arith, facts f .few) in
+      let s : slotStart at + slotSize * k ≡ slotStart (at + k) = omega arith in
+      let moved : y ≡ gather slotBytes r ++ replicate (1280 - slotSize * (count b - k)) 0 =
+      e
+      ∙ ap (λ (d : List ℕ). d ++ replicate (slotSize * k) 0)
+      (ap (drop (slotSize * k)) (lent f at first) ∙ drop-drop (slotSize * k) (slotStart at) b ∙ ap (λ (i : ℕ). drop i b) s ∙ back f (at + k) within)
+      ∙ append-assoc (gather slotBytes r) (replicate (1280 - slotSize * count b) 0) (replicate (slotSize * k) 0)
+      ∙ ap (λ (d : List ℕ). gather slotBytes r ++ d) (replicate-append-replicate {A = ℕ} (1280 - slotSize * count b) (slotSize * k) 0 ∙ ap (λ (j : ℕ). replicate j 0) n) in
+      let size : length (l ++ r) ≡ count b - k = simp length-append (omega (arith, length-first f at first, length-others f (at + k) within)) in
+      ap (λ (d : List ℕ). set d 0 (count b - k % 256)) (put-back f at first y ∙ ap₂ (λ (u v : List ℕ). u ++ v) (front f at first) moved)
+      ∙ rw m (sym (layout-joined l r (count b - k) size (omega (arith, facts f .few))))
 
--- ---- a slot put in
+-- ---- a slot written
 
-take-front : (x : List ℕ) (m k : ℕ) → m ≤ k → take (length x + m) (x ++ replicate k 0) ≡ x ++ replicate m 0
-take-front x m k h = take-append-add x (replicate k 0) m ∙ ap (λ (l : List ℕ). x ++ l) (take-replicate m k h)
+-- a slot between the bytes before it and those behind it
+slot-between : (l r : List Element) (e : Element) (n : ℕ) → length (l ++ (e ∷ r)) ≡ n → n ≤ 32
+    → (head n ++ gather slotBytes l) ++ (slotBytes e ++ (gather slotBytes r ++ replicate (1280 - slotSize * n) 0)) ≡ layout (l ++ (e ∷ r))
+slot-between l r e n h k =
+    sym
+    (layout-joined l (e ∷ r) n h k
+    ∙ ap (λ (s : List ℕ). (head n ++ gather slotBytes l) ++ s) (append-assoc (slotBytes e) (gather slotBytes r) (replicate (1280 - slotSize * n) 0)))
 
 module _ {b : List ℕ} (f : Formed b) (e : Element) (at : ℕ) (within : at ≤ count b) (free : count b < 32) where
-  all : List Element
-  all = take at (readPartition b) ++ (e ∷ drop at (readPartition b))
-
-  length-all : length all ≡ count b + 1
-  unfolding all
-  length-all =
-      length-append (take at (readPartition b)) (e ∷ drop at (readPartition b))
-      ∙ ap₂ (λ (x y : ℕ). x + suc y) (length-take-le at (readPartition b) (rw (length-elements f) within))
-      (length-drop at (readPartition b) ∙ ap (λ (n : ℕ). n - at) (length-elements f))
-      ∙ omega arith
-
   -- what stands behind the gap
-  behind : {x y : List ℕ} → x ≡ take (partitionSize - slotStart at) (drop (slotStart at) b) → y ≡ take slotSize x ++ take (length x - slotSize) x
+  behind-gap : {x y : List ℕ} → x ≡ take (partitionSize - slotStart at) (drop (slotStart at) b) → y ≡ take slotSize x ++ take (length x - slotSize) x
       → drop slotSize y ≡ gather slotBytes (drop at (readPartition b)) ++ replicate (1280 - slotSize * (count b + 1)) 0
-  behind {x} {y} p q =
+  behind-gap {x} p q =
       let d : List ℕ = gather slotBytes (drop at (readPartition b)) in
+      let k : ℕ = 1280 - slotSize * (count b + 1) in
       let r : x ≡ d ++ replicate (1280 - slotSize * count b) 0 = p ∙ lent f at within ∙ back f at within in
       let lx : length x ≡ partitionSize - slotStart at = ap length p ∙ lent-size f at within in
-      let ld : length d ≡ slotSize * (count b - at) = length-slots (drop at (readPartition b)) ∙ ap (λ (n : ℕ). slotSize * n) (length-drop at (readPartition b) ∙ ap (λ (n : ℕ). n - at) (length-elements f)) in
-      let n : length x - slotSize ≡ length d + (1280 - slotSize * (count b + 1)) = omega arith in
+      let ld : length d ≡ slotSize * (count b - at) = length-slots (drop at (readPartition b)) ∙ ap (λ (n : ℕ). slotSize * n) (length-others f at within) in
+      let n : length x - slotSize ≡ length d + k = omega arith in
       ap (drop slotSize) q
       ∙ drop-at (take slotSize x) (take (length x - slotSize) x) slotSize (length-take-le slotSize x (omega arith))
       ∙ ap₂ (λ (m : ℕ) (l : List ℕ). take m l) n r
-      ∙ take-front d (1280 - slotSize * (count b + 1)) (1280 - slotSize * count b) (omega arith)
+      ∙ take-append-add d (replicate (1280 - slotSize * count b) 0) k
+      ∙ ap (λ (l : List ℕ). d ++ l) (take-replicate k (1280 - slotSize * count b) (omega arith))
 
-  pub put-in-bytes : {y w : List ℕ}
-      → y ≡ take slotSize (take (partitionSize - slotStart at) (drop (slotStart at) b)) ++ take (length (take (partitionSize - slotStart at) (drop (slotStart at) b)) - slotSize) (take (partitionSize - slotStart at) (drop (slotStart at) b))
+  -- what the bytes lay out once the slot is written into the gap
+  pub put-in-bytes : {x y w : List ℕ} → x ≡ take (partitionSize - slotStart at) (drop (slotStart at) b) → y ≡ take slotSize x ++ take (length x - slotSize) x
       → w ≡ slotBytes e
       → set (putMid (slotStart at) (slotStart at + slotSize - slotStart at) (putMid (slotStart at) (partitionSize - slotStart at) b y) w) 0 (count b + 1)
       ≡ layout (take at (readPartition b) ++ (e ∷ drop at (readPartition b)))
-  unfolding all
-  put-in-bytes {y} {w} p q =
+  put-in-bytes {y = y} {w = w} o p q =
       let z : List ℕ = take (slotStart at) b ++ y in
       let lf : length (take (slotStart at) b) ≡ slotStart at = length-take-le (slotStart at) b (omega (arith, facts f .size)) in
+      let size : length (take at (readPartition b) ++ (e ∷ drop at (readPartition b))) ≡ count b + 1 =
+      simp length-append (omega (arith, length-first f at within, length-others f at within)) in
       ap (λ (l : List ℕ). set (putMid (slotStart at) (slotStart at + slotSize - slotStart at) l w) 0 (count b + 1)) (put-back f at within y)
       ∙ ap (λ (l : List ℕ). set (take (slotStart at) z ++ (w ++ l)) 0 (count b + 1))
       (post-is (slotStart at) (slotStart at + slotSize) z (omega arith)
       ∙ sym (drop-drop slotSize (slotStart at) z)
       ∙ ap (drop slotSize) (drop-at (take (slotStart at) b) y (slotStart at) lf)
-      ∙ behind refl p)
+      ∙ behind-gap o p)
       ∙ ap₂ (λ (u v : List ℕ). set (u ++ (v ++ (gather slotBytes (drop at (readPartition b)) ++ replicate (1280 - slotSize * (count b + 1)) 0))) 0 (count b + 1))
       (take-at (take (slotStart at) b) y (slotStart at) lf ∙ front f at within) q
-      ∙ sym
-      (layout-parts all (rw length-all (omega arith))
-      ∙ ap₂ (λ (n : ℕ) (l : List ℕ). head n ++ (l ++ replicate (1280 - slotSize * n) 0)) length-all (gather-append slotBytes (take at (readPartition b)) (e ∷ drop at (readPartition b)))
-      ∙ ap (λ (l : List ℕ). head (count b + 1) ++ l)
-      (append-assoc (gather slotBytes (take at (readPartition b))) (gather slotBytes (e ∷ drop at (readPartition b))) _
-      ∙ ap (λ (l : List ℕ). gather slotBytes (take at (readPartition b)) ++ l) (append-assoc (slotBytes e) (gather slotBytes (drop at (readPartition b))) _)))
+      ∙ slot-between (take at (readPartition b)) (drop at (readPartition b)) e (count b + 1) size (omega arith)
 
 -- ---- a partition with room
 
+-- the place is at most the count
 pub room-within : {b : List ℕ} {at : ℕ} {p : List Step} → Room b at p → at ≤ count b
-room-within {b} {at} {p} r = omega (arith, r .place, place-within p (readPartition b), length-elements (r .formed))
+room-within {b} {p = p} r = omega (arith, r .place, place-count p b)
 
+-- the sizes that the steps of an insert stay within
+pub room-sizes : {b : List ℕ} {at : ℕ} {p : List Step} → Room b at p → (length b ≡ partitionSize) × (at ≤ count b) × (count b < 32)
+room-sizes r = (facts (r .formed) .size, room-within r, r .free)
+
+-- an element put in at the place is one added to the set
 pub room-put : {b : List ℕ} {at : ℕ} (p : List Step) (c : Content) → Room b at p → {x : List ℕ}
     → x ≡ layout (take at (readPartition b) ++ (record { path = p; content = c } ∷ drop at (readPartition b))) → x ≡ layout (added p c (readPartition b))
 unfolding added
@@ -214,10 +188,18 @@ room-put {b} p c r g =
 
 -- ---- a slot given another content
 
-length-replaced : (i : ℕ) (c : Content) (es : List Element) → length (replacedAt i c es) ≡ length es
-length-replaced i c [] = refl
-length-replaced zero c (e ∷ es) = refl
-length-replaced (suc i) c (e ∷ es) = ap suc (length-replaced i c es)
+-- an element and its content replaced, in a set cut around it
+record Cut (i : ℕ) (c : Content) (es : List Element) : Type 0 where
+  element : Element
+  cut : drop i es ≡ element ∷ drop (suc i) es
+  is : replacedAt i c es ≡ take i es ++ (record { path = element .path; content = c } ∷ drop (suc i) es)
+
+cut-at : (i : ℕ) (c : Content) (es : List Element) → i < length es → Cut i c es
+cut-at i c [] h = absurd (omega arith)
+cut-at zero c (e ∷ es) h = record { element = e; cut = refl; is = refl }
+cut-at (suc i) c (e ∷ es) h =
+    let r : Cut i c es = cut-at i c es (omega arith) in
+    record { element = r .element; cut = r .cut; is = ap (λ (l : List Element). e ∷ l) (r .is) }
 
 -- the path's bytes of a slot, and the new content's
 slot-replaced : (e : Element) (c : Content) → take kindAt (slotBytes e) ++ contentBytes c ≡ slotBytes (record { path = e .path; content = c })
@@ -225,47 +207,24 @@ unfolding slotBytes pathBytes
 slot-replaced e c =
     ap (λ (l : List ℕ). l ++ contentBytes c) (take-at (pathBytes (e .path)) (contentBytes (e .content)) kindAt (simp (length-append, length-pad)))
 
-gather-replaced : (i : ℕ) (c : Content) (es : List Element) (z : List ℕ) → i < length es
-    → take (slotSize * i) (gather slotBytes es ++ z) ++ ((take kindAt (take slotSize (drop (slotSize * i) (gather slotBytes es ++ z))) ++ contentBytes c) ++ drop (slotSize * i + slotSize) (gather slotBytes es ++ z))
-    ≡ gather slotBytes (replacedAt i c es) ++ z
-gather-replaced i c [] z h = absurd (omega arith)
-gather-replaced zero c (e ∷ es) z h =
-    let n : slotSize * 0 + slotSize ≡ slotSize = omega arith in
-    rw (append-assoc (slotBytes e) (gather slotBytes es) z, n, take-at (slotBytes e) (gather slotBytes es ++ z) slotSize (length-slot e), drop-at (slotBytes e) (gather slotBytes es ++ z) slotSize (length-slot e), slot-replaced e c)
-    (sym (append-assoc (slotBytes (record { path = e .path; content = c })) (gather slotBytes es) z))
-gather-replaced (suc i) c (e ∷ es) z h =
-    let g : List ℕ = gather slotBytes es ++ z in
-    let n : slotSize * suc i ≡ length (slotBytes e) + slotSize * i = omega (arith, length-slot e) in
-    let m : slotSize * suc i + slotSize ≡ length (slotBytes e) + (slotSize * i + slotSize) = omega (arith, length-slot e) in
-    ap (λ (l : List ℕ). take (slotSize * suc i) l ++ ((take kindAt (take slotSize (drop (slotSize * suc i) l)) ++ contentBytes c) ++ drop (slotSize * suc i + slotSize) l)) (append-assoc (slotBytes e) (gather slotBytes es) z)
-    ∙ ap₂ (λ (a b : ℕ). take a (slotBytes e ++ g) ++ ((take kindAt (take slotSize (drop a (slotBytes e ++ g))) ++ contentBytes c) ++ drop b (slotBytes e ++ g))) n m
-    ∙ ap₂ (λ (t d : List ℕ). t ++ ((take kindAt (take slotSize d) ++ contentBytes c) ++ drop (length (slotBytes e) + (slotSize * i + slotSize)) (slotBytes e ++ g)))
-    (take-append-add (slotBytes e) g (slotSize * i)) (drop-append-add (slotBytes e) g (slotSize * i))
-    ∙ ap (λ (d : List ℕ). (slotBytes e ++ take (slotSize * i) g) ++ ((take kindAt (take slotSize (drop (slotSize * i) g)) ++ contentBytes c) ++ d)) (drop-append-add (slotBytes e) g (slotSize * i + slotSize))
-    ∙ append-assoc (slotBytes e) (take (slotSize * i) g) _
-    ∙ ap (λ (l : List ℕ). slotBytes e ++ l) (gather-replaced i c es z (omega arith))
-    ∙ sym (append-assoc (slotBytes e) (gather slotBytes (replacedAt i c es)) z)
-
 module _ {b : List ℕ} (f : Formed b) (at : ℕ) (c : Content) (within : at < count b) where
+  -- what the bytes lay out once the slot has the other content
   pub put-over : {w : List ℕ} → w ≡ take kindAt (take (slotStart at + slotSize - slotStart at) (drop (slotStart at) b)) ++ contentBytes c
       → putMid (slotStart at) (slotStart at + slotSize - slotStart at) b w ≡ layout (replacedAt at c (readPartition b))
   put-over {w} q =
-      let es : List Element = readPartition b in
-      let z : List ℕ = replicate (1280 - slotSize * length es) 0 in
+      let r : Cut at c (readPartition b) = cut-at at c (readPartition b) (omega (arith, length-read b)) in
+      let e : Element = r .element in
+      let ds : List Element = drop (suc at) (readPartition b) in
+      let z : List ℕ = replicate (1280 - slotSize * count b) 0 in
       let n : slotStart at + slotSize - slotStart at ≡ slotSize = omega arith in
-      let m : slotStart at + slotSize ≡ length (head (length es)) + (slotSize * at + slotSize) = omega arith in
-      let p : b ≡ head (length es) ++ (gather slotBytes es ++ z) = is-layout f ∙ layout-parts es (few-elements f) in
-      let g : List ℕ = gather slotBytes es ++ z in
-      let w-is : w ≡ take kindAt (take slotSize (drop (slotSize * at) g)) ++ contentBytes c =
-      q
-      ∙ ap₂ (λ (m : ℕ) (l : List ℕ). take kindAt (take m (drop (slotStart at) l)) ++ contentBytes c) n p
-      ∙ ap (λ (l : List ℕ). take kindAt (take slotSize l) ++ contentBytes c) (drop-append-add (head (length es)) g (slotSize * at)) in
-      ap (λ (l : List ℕ). take (slotStart at) b ++ (w ++ l)) (post-is (slotStart at) (slotStart at + slotSize) b (omega arith))
-      ∙ ap₂ (λ (x v : List ℕ). take (slotStart at) x ++ (v ++ drop (slotStart at + slotSize) x)) p w-is
-      ∙ ap₂ (λ (t d : List ℕ). t ++ ((take kindAt (take slotSize (drop (slotSize * at) g)) ++ contentBytes c) ++ d))
-      (take-append-add (head (length es)) g (slotSize * at))
-      (ap (λ (k : ℕ). drop k (head (length es) ++ g)) m ∙ drop-append-add (head (length es)) g (slotSize * at + slotSize))
-      ∙ ap (λ (l : List ℕ). head (length es) ++ l) (gather-replaced at c es z (rw (length-elements f) within))
-      ∙ sym
-      (layout-parts (replacedAt at c es) (rw (length-replaced at c es) (few-elements f))
-      ∙ ap (λ (k : ℕ). head k ++ (gather slotBytes (replacedAt at c es) ++ replicate (1280 - slotSize * k) 0)) (length-replaced at c es))
+      let s : slotStart at + slotSize ≡ slotStart (suc at) = omega arith in
+      let slot : take slotSize (drop (slotStart at) b) ≡ slotBytes e =
+      ap (take slotSize) (back f at (omega arith) ∙ ap (λ (l : List Element). gather slotBytes l ++ z) (r .cut) ∙ append-assoc (slotBytes e) (gather slotBytes ds) z)
+      ∙ take-at (slotBytes e) (gather slotBytes ds ++ z) slotSize (length-slot e) in
+      let w-is : w ≡ slotBytes (record { path = e .path; content = c }) = q ∙ rw (n, slot) (slot-replaced e c) in
+      let size : length (take at (readPartition b) ++ (record { path = e .path; content = c } ∷ ds)) ≡ count b =
+      simp length-append (omega (arith, length-first f at (omega arith), length-others f (suc at) (omega arith))) in
+      ap₂ (λ (l v : List ℕ). take (slotStart at) b ++ (v ++ l))
+      (post-is (slotStart at) (slotStart at + slotSize) b (omega arith) ∙ ap (λ (i : ℕ). drop i b) s ∙ back f (suc at) (omega arith))
+      w-is
+      ∙ rw (front f at (omega arith), r .is) (slot-between (take at (readPartition b)) ds (record { path = e .path; content = c }) (count b) size (facts f .few))

@@ -1,23 +1,23 @@
 -- In a set of valid elements of label n, ascending order and the prefixes of the own label come to each path following the one
 -- before: its parent, if it ends in n, is then a prefix of the path before.
 use mathlib.Core.Path.{_≡_, refl, ap, _∙_}
-use mathlib.Core.Logic.{_⊎_, inl, inr}
+use mathlib.Core.Logic.{_⊎_, inl, inr, ⊎-elim}
 use mathlib.Core.Bool.{false, not, _&&_, _||_}
-use mathlib.Core.List.{List, [], _∷_, _++_, append-assoc, append-nil, List·Memᴰ·head, List·Memᴰ·tail, List·Memᴰ·cases-cons, List·Memᴰ·not-nil, List·Memᴰ·append-cases}
+use mathlib.Core.List.{List, [], _∷_, _++_, append-assoc, List·Memᴰ·head, List·Memᴰ·tail, List·Memᴰ·cases-cons, List·Memᴰ·not-nil}
 use Prim.Native.Nat.{ℕ, _<_}
 use native.Mathlib.Omega.{arith}
 use lib.ListN.{length}
 use lib.Dec.{T, leb, eqb-refl}
 use mir.Facts.{or-yes, T-not, not-T}
-use Rattle.model.specs.Lists.{all}
-use Rattle.model.specs.Sets.{ascending}
+use Rattle.model.specs.Lists.{all, _∈_}
+use Rattle.model.specs.Sets.{ascending, sorted, ahead}
 use Rattle.model.specs.Label.{isLabel, dominates}
 use Rattle.model.specs.Path.{Step, sameStep, isPrefix, parent, endsIn, labelsAscend, validPath, key, pathRank}
 use Rattle.model.specs.Element.{Element, rank, validElement, contains, closed}
 use Rattle.model.proofs.Bools.{and-l, and-r, both, or-l, or-r, decide, same-test}
-use Rattle.model.proofs.Members.{_∈_, all-in, in-front, in-back}
+use Rattle.model.proofs.Members.{all-in, in-front, in-back}
 use Rattle.model.proofs.Dominance.{dominates-lower, dominates-antisym}
-use Rattle.model.proofs.Order.{precedes-irrefl, precedes-trans, sorted, ahead, ascending-sorted}
+use Rattle.model.proofs.Order.{precedes-irrefl, precedes-trans, ascending-sorted}
 use Rattle.model.proofs.Paths.{step-eq, prefix-trans, prefix-parent, prefix-below, prefix-first, between-extends, key-keyed, parent-prefix}
 use Rattle.model.proofs.Sets.{contains-in, in-contains, Closed, closed-facts, facts-closed}
 use Rattle.path.specs.Common.{isBefore}
@@ -34,6 +34,11 @@ parent-shorter a (b ∷ p) = let h : length (parent (b ∷ p)) < length (b ∷ p
 ends-some : (a : Step) (p : List Step) → (m : ℕ) × T (endsIn m (a ∷ p))
 ends-some a [] = (a .label, eqb-refl (a .label))
 ends-some a (b ∷ p) = ends-some b p
+
+-- only the root is a prefix of the root, and it ends in no label
+root-ends : (n : ℕ) (q : List Step) → T (isPrefix q []) → T (endsIn n q) → ⊥
+root-ends n [] b s = s
+root-ends n (a ∷ q) b s = b
 
 -- labels ascend along a prefix too
 ascend-prefix : (r p : List Step) → T (isPrefix r p) → T (labelsAscend p) → T (labelsAscend r)
@@ -55,11 +60,7 @@ own-parent : (n : ℕ) (q p : List Step) → T (isLabel n) → T (labelsAscend p
 own-parent n q p l s t u h = go (parent p) (parent-prefix p) h
   where
     go : (r : List Step) → T (isPrefix r p) → T (isPrefix q r) → T (endsIn n r)
-    go [] b k = nothing q u k
-      where
-        nothing : (x : List Step) → T (endsIn n x) → T (isPrefix x []) → T (endsIn n [])
-        nothing [] i j = absurd i
-        nothing (a ∷ x) i j = absurd j
+    go [] b k = absurd (root-ends n q k u)
     go (a ∷ r) b k =
         let e : (m : ℕ) × T (endsIn m (a ∷ r)) = ends-some a r in
         let m : ℕ = e .0 in
@@ -109,27 +110,18 @@ module _ (n : ℕ) (label : T (isLabel n)) where
           near h (or-yes (not (endsIn n (parent (e .path)))) (isPrefix (parent (e .path)) p)
           (and-r (isBefore p (e .path)) (not (endsIn n (parent (e .path))) || isPrefix (parent (e .path)) p) t))
 
-  close-next : (front : List Element) (p : List Step) (e : Element) → T (validElement n e) → Covers n front p → T (mayFollow n p (e .path))
-      → Closed n front → Closed n (front ++ (e ∷ []))
-  close-next front p e v f t c x m q b s = go (List·Memᴰ·append-cases front m)
-    where
-      go : (x ∈ front) ⊎ (x ∈ e ∷ []) → T (contains (front ++ (e ∷ [])) q)
-      go (inl k) = contains-front front (e ∷ []) q (c x k q b s)
-      go (inr k) = last (List·Memᴰ·cases-cons k)
-        where
-          last : (x ≡ e) ⊎ (x ∈ []) → T (contains (front ++ (e ∷ [])) q)
-          last (inl h) = cover-next front p e v f t q (rw h at b) s
-          last (inr h) = absurd (List·Memᴰ·not-nil h)
-
-  linked-closes : (front : List Element) (p : List Step) (es : List Element) → T (all (validElement n) es) → Covers n front p → Closed n front
-      → T (linked n p es) → Closed n (front ++ es)
-  linked-closes front p [] v f c t = rw (append-nil front) c
-  linked-closes front p (e ∷ es) v f c t =
-      let ve : T (validElement n e) = and-l (validElement n e) (all (validElement n) es) v in
-      let te : T (mayFollow n p (e .path)) = and-l (mayFollow n p (e .path)) (linked n (e .path) es) t in
+  -- so each element's prefixes are there, whatever stands before
+  linked-covers : (front : List Element) (p : List Step) (es : List Element) → T (all (validElement n) es) → Covers n front p → T (linked n p es)
+      → (x : Element) → x ∈ es → Covers n (front ++ es) (x .path)
+  linked-covers front p [] v f t x m = absurd (List·Memᴰ·not-nil m)
+  linked-covers front p (e ∷ es) v f t x m =
+      let here : Covers n (front ++ (e ∷ [])) (e .path) =
+      cover-next front p e (and-l (validElement n e) (all (validElement n) es) v) f (and-l (mayFollow n p (e .path)) (linked n (e .path) es) t) in
       rw (← (append-assoc front (e ∷ []) es))
-      (linked-closes (front ++ (e ∷ [])) (e .path) es (and-r (validElement n e) (all (validElement n) es) v) (cover-next front p e ve f te)
-      (close-next front p e ve f te c) (and-r (mayFollow n p (e .path)) (linked n (e .path) es) t))
+      (⊎-elim
+      (λ (h : x ≡ e) q b s. contains-front (front ++ (e ∷ [])) es q (here q (rw h at b) s))
+      (linked-covers (front ++ (e ∷ [])) (e .path) es (and-r (validElement n e) (all (validElement n) es) v) here (and-r (mayFollow n p (e .path)) (linked n (e .path) es) t) x)
+      (List·Memᴰ·cases-cons m))
 
 -- ---- and the other way
 
@@ -211,6 +203,7 @@ root-before n e v = go (e .path) (search (and-l, and-r))
     go [] t = absurd t
     go (a ∷ p) t = tt
 
+-- a set of valid elements ascends and has its prefixes where each path may follow the one before
 pub linked-is : (n : ℕ) (es : List Element) → T (isLabel n) → T (all (validElement n) es) → (ascending rank es && closed n es) ≡ linked n [] es
 linked-is n es l v =
     same-test (ascending rank es && closed n es) (linked n [] es)
@@ -219,8 +212,4 @@ linked-is n es l v =
     (ascending-sorted rank es (and-l (ascending rank es) (closed n es) t)) (λ d k. root-before n d (all-in (validElement n) es v k)))
     (λ (t : T (linked n [] es)).
     both (ascending rank es) (closed n es) (linked-ascends n [] es t)
-    (facts-closed n es (linked-closes n l [] [] es v (λ q b s. nothing q b s) (λ e m. absurd (List·Memᴰ·not-nil m)) t)))
-  where
-    nothing : (q : List Step) → T (isPrefix q []) → T (endsIn n q) → T (contains [] q)
-    nothing [] b s = absurd s
-    nothing (a ∷ q) b s = absurd b
+    (facts-closed n es (linked-covers n l [] [] es v (λ q b s. absurd (root-ends n q b s)) t)))

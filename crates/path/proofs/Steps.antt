@@ -14,7 +14,7 @@ use Rattle.model.specs.Lists.{all, range}
 use Rattle.model.specs.Sets.{precedes}
 use Rattle.model.specs.Label.{isLabel, dominates}
 use Rattle.model.specs.Path.{Step, sameStep, parent, lastStep, endsIn, validStep, validPath, labelsAscend, stepsOf, key}
-use Rattle.model.specs.Call.{goodPath}
+use Rattle.model.specs.Rows.{goodPath}
 use Rattle.model.proofs.Bools.{and-l, and-r, both, or-l, or-r, decide, same-test}
 use Rattle.model.proofs.Lists.{length-range, getD-front, drop-next}
 use Rattle.model.proofs.Dominance.{dominates-upper, bottom-label}

@@ -4,7 +4,7 @@ ghost use Prim.Native.Nat.{_+_, _*_, _<_};
 ghost use lib.ListN.{length};
 ghost use lib.Dec.{T};
 ghost use Rattle.model.specs.Path.{endsIn, stepsOf};
-ghost use Rattle.model.specs.Call.{goodPath};
+ghost use Rattle.model.specs.Rows.{goodPath};
 ghost use Rattle.path.specs.Steps.{stepOf, lentStep, mayFollow, allFollow, KeyOf};
 
 // The key of a step in path order: the name first, then the label. No other code knows the order.

@@ -1,11 +1,11 @@
 -- Steps written into a buffer, three bytes each.
-use mathlib.Core.Path.{_≡_, refl, ap, ap₂, _∙_}
+use mathlib.Core.Path.{_≡_, refl, ap, _∙_}
 use mathlib.Core.List.{List, [], _∷_, _++_, append-assoc}
 use Prim.Native.Nat.{ℕ, zero, suc, _+_, _*_, _/_, _%_, _≤_, _<_}
 use native.Mathlib.Omega.{arith}
 use lib.ListN.{length, take, drop, set, length-set}
 use lib.Seq.{length-take-le, take-append-add, sets-eq}
-use lib.Dec.{T, ltb}
+use lib.Dec.{T}
 use mir.Facts.{ltb-yes}
 use Rattle.model.specs.Lists.{all, isByte}
 use Rattle.model.specs.Path.{Step, stepsOf}
@@ -13,22 +13,29 @@ use Rattle.model.specs.Script.{lentPath}
 use Rattle.model.proofs.Bools.{and-l, and-r}
 use Rattle.model.proofs.Lists.{Bytes, all-take}
 
+-- what holds of no bytes, and of three bytes before some of which it holds, holds of any 3 * n bytes
+pub by-threes : (P : ℕ → List ℕ → Type 0) → P 0 [] → ((n a b c : ℕ) (x : List ℕ) → P n x → P (suc n) (a ∷ b ∷ c ∷ x))
+    → (n : ℕ) (x : List ℕ) → length x ≡ 3 * n → P n x
+by-threes P f g zero [] e = f
+by-threes P f g zero (a ∷ x) e = absurd (omega arith)
+by-threes P f g (suc n) [] e = absurd (omega arith)
+by-threes P f g (suc n) (a ∷ []) e = absurd (omega arith)
+by-threes P f g (suc n) (a ∷ b ∷ []) e = absurd (omega arith)
+by-threes P f g (suc n) (a ∷ b ∷ c ∷ x) e = g n a b c x (by-threes P f g n x (omega arith))
+
 -- the bytes of one step more
 steps-more : (n : ℕ) (x : List ℕ) (lo hi l : ℕ) → length x ≡ 3 * n
     → stepsOf (x ++ (lo ∷ hi ∷ l ∷ [])) ≡ stepsOf x ++ (record { name = lo + 256 * hi; label = l } ∷ [])
-steps-more zero [] lo hi l e = refl
-steps-more zero (a ∷ x) lo hi l e = absurd (omega arith)
-steps-more (suc n) [] lo hi l e = absurd (omega arith)
-steps-more (suc n) (a ∷ []) lo hi l e = absurd (omega arith)
-steps-more (suc n) (a ∷ b ∷ []) lo hi l e = absurd (omega arith)
-steps-more (suc n) (a ∷ b ∷ c ∷ x) lo hi l e =
-    ap (λ (p : List Step). record { name = a + 256 * b; label = c } ∷ p) (steps-more n x lo hi l (omega arith))
+steps-more n x lo hi l =
+    by-threes (λ n x. stepsOf (x ++ (lo ∷ hi ∷ l ∷ [])) ≡ stepsOf x ++ (record { name = lo + 256 * hi; label = l } ∷ []))
+    refl (λ n a b c x. ap (λ (p : List Step). record { name = a + 256 * b; label = c } ∷ p)) n x
 
 -- a buffer with a step written behind n others
 abbrev pub putStep : List ℕ → ℕ → ℕ → ℕ → List ℕ
 putStep b n name label = set (set (set b (3 * n) (name % 256)) (3 * n + 1) (name / 256)) (3 * n + 2) label
 
 module _ (b : List ℕ) (n name label : ℕ) where
+  -- writing a step keeps the length
   pub length-put : length (putStep b n name label) ≡ length b
   length-put = simp length-set
 
@@ -40,6 +47,7 @@ module _ (b : List ℕ) (n name label : ℕ) where
         rw (e, f) (sets-eq (name % 256 ∷ name / 256 ∷ label ∷ []) b (3 * n) h)
         ∙ append-assoc (take (3 * n) b) (name % 256 ∷ name / 256 ∷ label ∷ []) (drop (3 * n + 3) b)
 
+    -- the steps of the buffer are then one more
     pub steps-put : stepsOf (take (3 * (n + 1)) (putStep b n name label)) ≡ stepsOf (take (3 * n) b) ++ (record { name = name; label = label } ∷ [])
     steps-put =
         let k : length (take (3 * n) b) ≡ 3 * n = length-take-le (3 * n) b (omega arith) in
@@ -56,19 +64,16 @@ module _ (b : List ℕ) (n name label : ℕ) where
 -- the bytes of the steps that bytes hold are those bytes
 bytes-back : (n : ℕ) (x : List ℕ) → length x ≡ 3 * n → T (all isByte x) → lentPath (stepsOf x) ≡ x
 unfolding isByte
-bytes-back zero [] e t = refl
-bytes-back zero (a ∷ x) e t = absurd (omega arith)
-bytes-back (suc n) [] e t = absurd (omega arith)
-bytes-back (suc n) (a ∷ []) e t = absurd (omega arith)
-bytes-back (suc n) (a ∷ b ∷ []) e t = absurd (omega arith)
-bytes-back (suc n) (a ∷ b ∷ c ∷ x) e t =
-    let h : a < 256 = ltb-yes (and-l (ltb a 256) (all isByte (b ∷ c ∷ x)) t) in
-    let u : T (all isByte (b ∷ c ∷ x)) = and-r (ltb a 256) (all isByte (b ∷ c ∷ x)) t in
-    let v : T (all isByte (c ∷ x)) = and-r (ltb b 256) (all isByte (c ∷ x)) u in
-    let w : T (all isByte x) = and-r (ltb c 256) (all isByte x) v in
-    let p : (a + 256 * b) % 256 ≡ a = omega arith in
-    let q : (a + 256 * b) / 256 ≡ b = omega arith in
-    ap₂ (λ (i j : ℕ). i ∷ j ∷ c ∷ lentPath (stepsOf x)) p q ∙ ap (λ (y : List ℕ). a ∷ b ∷ c ∷ y) (bytes-back n x (omega arith) w)
+bytes-back = by-threes (λ n x. T (all isByte x) → lentPath (stepsOf x) ≡ x) (λ t. refl) more
+  where
+    more : (n a b c : ℕ) (x : List ℕ) → (T (all isByte x) → lentPath (stepsOf x) ≡ x) → T (all isByte (a ∷ b ∷ c ∷ x))
+        → lentPath (stepsOf (a ∷ b ∷ c ∷ x)) ≡ a ∷ b ∷ c ∷ x
+    more n a b c x f t =
+        let h : a < 256 = ltb-yes (search and-l) in
+        let p : (a + 256 * b) % 256 ≡ a = omega arith in
+        let q : (a + 256 * b) / 256 ≡ b = omega arith in
+        rw (p, q, f (search (and-l, and-r)))
 
+-- the bytes of n steps of a buffer are its first 3 * n
 pub lent-steps : (b : List ℕ) (n : ℕ) → Bytes b → 3 * n ≤ length b → lentPath (stepsOf (take (3 * n) b)) ≡ take (3 * n) b
 lent-steps b n t h = bytes-back n (take (3 * n) b) (length-take-le (3 * n) b h) (all-take isByte (3 * n) b (t .bytes))

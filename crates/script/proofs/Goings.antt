@@ -22,6 +22,7 @@ pub no-empty : {A : Type 0} {x : A} {l : List A} → _≡_ {A = List A} [] (x �
 no-empty e = let z : _≡_ {A = ℕ} 0 1 = cc in omega arith
 
 module _ (l : List ℕ) (at : ℕ) where
+  -- what stands there, and what follows it
   pub drop-here : at < length l → drop at l ≡ getD l at 0 ∷ drop (at + 1) l
   drop-here h = rw (add-one at) (drop-cons l at 0 h)
 
@@ -34,15 +35,19 @@ module _ (l : List ℕ) (at : ℕ) where
       let d : drop at l ≡ [] = drop-of-length-le l {i = at} (ltb-no t) in
       absurd (no-empty (sym d ∙ e)))
 
+  -- no byte stands behind the end
   pub begins-past : (b : ℕ) → length l ≤ at → false ≡ begins b (drop at l)
   begins-past b h = rw (drop-of-length-le l {i = at} h)
 
+  -- the byte that stands there tells whether it is b
   pub begins-here : (b : ℕ) → at < length l → eqb (getD l at 0) b ≡ begins b (drop at l)
   begins-here b h = rw (drop-here h)
 
+  -- a field ends with the line
   pub closes-past : length l ≤ at → true ≡ closes (drop at l)
   closes-past h = rw (drop-of-length-le l {i = at} h)
 
+  -- the byte that stands there tells whether a field ends
   pub closes-here : at < length l → eqb (getD l at 0) 9 ≡ closes (drop at l)
   closes-here h = rw (drop-here h)
 
@@ -52,6 +57,7 @@ pub record Here (l : List ℕ) (at b : ℕ) : Type 0 where
   pub is : drop at l ≡ b ∷ drop (at + 1) l
 
 module _ (l : List ℕ) (at b : ℕ) {t : Bool} (e : t ≡ begins b (drop at l)) where
+  -- the test passed: b stands there
   pub begins-yes : not t ≡ false → Here l at b
   begins-yes h = go (drop at l) refl (sym e ∙ not-false t h)
     where
@@ -61,5 +67,10 @@ module _ (l : List ℕ) (at b : ℕ) {t : Bool} (e : t ≡ begins b (drop at l))
           let w = drop-within l at x r d in
           record { within = w .0; is = d ∙ rw (eqb-true x b f, w .1) }
 
+  -- so the place behind it is within the line, or its end
+  pub begins-within : not t ≡ false → at + 1 ≤ length l
+  begins-within h = omega (arith, begins-yes h .within)
+
+  -- the test failed: b does not stand there
   pub begins-no : not t ≡ true → (r : List ℕ) → drop at l ≡ b ∷ r → ⊥
   begins-no h r d = neither (not-true t h) (e ∙ ap (begins b) d ∙ eq-eqb b b refl)

@@ -1,12 +1,12 @@
 -- A line has one result that meets the contract of `read_line`.
 use mathlib.Core.Path.{_≡_, refl, sym, ap, _∙_}
-use mathlib.Core.List.{List, [], _∷_}
-use Prim.Native.Nat.{ℕ, zero, suc, _-_, _*_, _≤_}
+use mathlib.Core.List.{List}
+use Prim.Native.Nat.{ℕ, suc, _-_, _*_, _≤_}
 use native.Mathlib.Omega.{arith}
-use lib.ListN.{length, take, drop, length-drop}
+use lib.ListN.{length, take, length-drop}
 use lib.Seq.{length-take-le}
 use Rattle.model.specs.Path.{Step, stepsOf}
-use Rattle.model.specs.Script.{ScriptCall, Reading}
+use Rattle.model.specs.Script.{ScriptValue, group, measure, text, ScriptOp, view, insert, update, delete, ScriptCall, Reading}
 use Rattle.model.proofs.Script.{text-injective}
 use Rattle.script.specs.Values.{valueOf, textLength}
 use Rattle.script.specs.Calls.{opOf, readingOf, textIn, Spans}
@@ -17,60 +17,40 @@ use Rattle.script.specs.declared.Call.the-variants.{View, Insert, Update
 use Rattle.script.specs.declared.Read.{Read}
 use Rattle.script.specs.declared.Line.{Line}
 use Rattle.script.specs.declared.Line.the-variants as line
+use Rattle.script.proofs.Buffers.{by-threes}
+use Rattle.script.proofs.Callings.{pathOf, path-of-call}
 
--- n steps are n
-steps-count : (n : ℕ) (x : List ℕ) → length x ≡ 3 * n → length (stepsOf x) ≡ n
-steps-count zero [] e = refl
-steps-count zero (a ∷ x) e = absurd (omega arith)
-steps-count (suc n) [] e = absurd (omega arith)
-steps-count (suc n) (a ∷ []) e = absurd (omega arith)
-steps-count (suc n) (a ∷ b ∷ []) e = absurd (omega arith)
-steps-count (suc n) (a ∷ b ∷ c ∷ x) e = ap suc (steps-count n x (omega arith))
+-- the codes of a value and of a call
+abbrev codeOf : ScriptValue → Value
+codeOf group = Group
+codeOf (measure m) = Measure m
+codeOf (text t) = Text (length t)
+
+abbrev callOf : ScriptOp → Call
+callOf (view p) = View
+callOf (insert p v) = Insert (codeOf v)
+callOf (update p v) = Update (codeOf v)
+callOf (delete p) = Delete
 
 module _ (l : List ℕ) where
-  -- the last n bytes of a line are n
-  last-count : (n m : ℕ) → n ≤ length l → m ≤ length l → drop (length l - n) l ≡ drop (length l - m) l → n ≡ m
-  last-count n m h k e =
-      let a : length (drop (length l - n) l) ≡ length l - (length l - n) = length-drop (length l - n) l in
-      let b : length (drop (length l - m) l) ≡ length l - (length l - m) = length-drop (length l - m) l in
-      omega (arith, a, b, ap length e)
+  value-back : (v : Value) → textLength v ≤ length l → codeOf (valueOf v l) ≡ v
+  value-back Group h = refl
+  value-back (Measure m) h = refl
+  value-back (Text n) h = ap Text (length-drop (length l - n) l ∙ omega arith)
 
-  same-value : (v w : Value) → textLength v ≤ length l → textLength w ≤ length l → valueOf v l ≡ valueOf w l → v ≡ w
-  same-value Group Group h k e = refl
-  same-value Group (Measure m) h k e = let z : _≡_ {A = ℕ} 0 1 = cc in absurd (omega arith)
-  same-value Group (Text m) h k e = let z : _≡_ {A = ℕ} 0 1 = cc in absurd (omega arith)
-  same-value (Measure n) Group h k e = let z : _≡_ {A = ℕ} 0 1 = cc in absurd (omega arith)
-  same-value (Measure n) (Measure m) h k e = ap Measure (cc)
-  same-value (Measure n) (Text m) h k e = let z : _≡_ {A = ℕ} 0 1 = cc in absurd (omega arith)
-  same-value (Text n) Group h k e = let z : _≡_ {A = ℕ} 0 1 = cc in absurd (omega arith)
-  same-value (Text n) (Measure m) h k e = let z : _≡_ {A = ℕ} 0 1 = cc in absurd (omega arith)
-  same-value (Text n) (Text m) h k e = ap Text (last-count n m h k (cc))
-
-  module _ (p q : List Step) where
-    same-call : (c d : Call) → textIn c ≤ length l → textIn d ≤ length l → opOf c p l ≡ opOf d q l → (c ≡ d) × (p ≡ q)
-    same-call View View h k e = (refl, cc)
-    same-call View (Insert w) h k e = let z : _≡_ {A = ℕ} 0 1 = cc in absurd (omega arith)
-    same-call View (Update w) h k e = let z : _≡_ {A = ℕ} 0 1 = cc in absurd (omega arith)
-    same-call View Delete h k e = let z : _≡_ {A = ℕ} 0 1 = cc in absurd (omega arith)
-    same-call (Insert v) View h k e = let z : _≡_ {A = ℕ} 0 1 = cc in absurd (omega arith)
-    same-call (Insert v) (Insert w) h k e = (ap Insert (same-value v w h k (cc)), cc)
-    same-call (Insert v) (Update w) h k e = let z : _≡_ {A = ℕ} 0 1 = cc in absurd (omega arith)
-    same-call (Insert v) Delete h k e = let z : _≡_ {A = ℕ} 0 1 = cc in absurd (omega arith)
-    same-call (Update v) View h k e = let z : _≡_ {A = ℕ} 0 1 = cc in absurd (omega arith)
-    same-call (Update v) (Insert w) h k e = let z : _≡_ {A = ℕ} 0 1 = cc in absurd (omega arith)
-    same-call (Update v) (Update w) h k e = (ap Update (same-value v w h k (cc)), cc)
-    same-call (Update v) Delete h k e = let z : _≡_ {A = ℕ} 0 1 = cc in absurd (omega arith)
-    same-call Delete View h k e = let z : _≡_ {A = ℕ} 0 1 = cc in absurd (omega arith)
-    same-call Delete (Insert w) h k e = let z : _≡_ {A = ℕ} 0 1 = cc in absurd (omega arith)
-    same-call Delete (Update w) h k e = let z : _≡_ {A = ℕ} 0 1 = cc in absurd (omega arith)
-    same-call Delete Delete h k e = (refl, cc)
+  call-back : (c : Call) (p : List Step) → textIn c ≤ length l → callOf (opOf c p l) ≡ c
+  call-back View p h = refl
+  call-back (Insert v) p h = ap Insert (value-back v h)
+  call-back (Update v) p h = ap Update (value-back v h)
+  call-back Delete p h = refl
 
   -- the steps of a read call, in a buffer
   abbrev stepsIn : Read → List ℕ → List Step
   stepsIn r b = stepsOf (take (3 * r .steps) b)
 
   count-in : (r : Read) (b : List ℕ) → 3 * r .steps ≤ length b → length (stepsIn r b) ≡ r .steps
-  count-in r b h = steps-count (r .steps) (take (3 * r .steps) b) (length-take-le (3 * r .steps) b h)
+  count-in r b h =
+      by-threes (λ n x. length (stepsOf x) ≡ n) refl (λ n a b c x. ap suc) (r .steps) (take (3 * r .steps) b) (length-take-le (3 * r .steps) b h)
 
   -- the call that it stands for
   abbrev callIn : Read → List ℕ → ScriptCall
@@ -79,14 +59,14 @@ module _ (l : List ℕ) where
   same-read : (r s : Read) (b c : List ℕ) → 192 ≤ length b → 192 ≤ length c → Spans (line.Call r) 192 (length l) → Spans (line.Call s) 192 (length l)
       → callIn r b ≡ callIn s c → r ≡ s
   same-read r s b c h k x y e =
-      let o : opOf (r .call) (stepsIn r b) l ≡ opOf (s .call) (stepsIn s c) l = ap (λ (d : ScriptCall). d .op) e in
       let i : r .subject ≡ s .subject = ap (λ (d : ScriptCall). d .subject) e in
-      let u = same-call (stepsIn r b) (stepsIn s c) (r .call) (s .call) (x .1) (y .1) o in
-      let m : length (stepsIn r b) ≡ r .steps = count-in r b (omega (arith, x .0)) in
-      let n : length (stepsIn s c) ≡ s .steps = count-in s c (omega (arith, y .0)) in
-      let j : r .steps ≡ s .steps = sym m ∙ ap length (u .1) ∙ n in
-      λ t. record { subject = i t; steps = j t; call = (u .0) t }
+      let o : opOf (r .call) (stepsIn r b) l ≡ opOf (s .call) (stepsIn s c) l = ap (λ (d : ScriptCall). d .op) e in
+      let u : r .call ≡ s .call = sym (call-back (r .call) (stepsIn r b) (x .1)) ∙ ap callOf o ∙ call-back (s .call) (stepsIn s c) (y .1) in
+      let p : stepsIn r b ≡ stepsIn s c = sym (path-of-call (r .call) (stepsIn r b) l) ∙ ap pathOf o ∙ path-of-call (s .call) (stepsIn s c) l in
+      let j : r .steps ≡ s .steps = sym (count-in r b (omega (arith, x .0))) ∙ ap length p ∙ count-in s c (omega (arith, y .0)) in
+      λ t. record { subject = i t; steps = j t; call = u t }
 
+  -- two results for one line are the same
   pub read-unique : (x y : Line) (b c : List ℕ) → 192 ≤ length b → 192 ≤ length c → Reading l (readingOf x b l) → Reading l (readingOf y c l)
       → Spans x 192 (length l) → Spans y 192 (length l) → x ≡ y
   read-unique line.None line.None b c h k p q s t = refl

@@ -2,7 +2,7 @@
 use mathlib.Core.Path.{_≡_, refl, sym, ap, ap₂, subst, _∙_}
 use mathlib.Core.Bool.{Bool, true, false, not, _&&_}
 use mathlib.Core.List.{List, [], _∷_, _++_, append-assoc}
-use Prim.Native.Nat.{ℕ, _+_, _*_, _≤_, _<_}
+use Prim.Native.Nat.{ℕ, suc, _+_, _-_, _*_, _≤_, _<_}
 use native.Mathlib.Omega.{arith}
 use lib.ListN.{length, take, drop}
 use lib.Seq.{append-snoc}
@@ -10,13 +10,14 @@ use lib.Dec.{T, leb}
 use mir.Facts.{T-not, leb-yes, yes-leb, eqb-yes}
 use borrow.Author.Tests.{not-false}
 use Rattle.model.specs.Path.{Step, stepsOf}
-use Rattle.model.specs.Text.{decimal}
+use Rattle.model.specs.Text.{decimal, isDigit}
 use Rattle.model.specs.Script.{stepText, pathText, pathInRange}
 use Rattle.model.proofs.Bools.{and-l, and-r, both}
-use Rattle.model.proofs.Decimal.{isDigit}
 use Rattle.script.specs.Text.{begins, closes, noDigit}
-use Rattle.script.specs.Numbers.{Numbered}
+use Rattle.script.specs.Numbers.{Numbered, NumberAt}
 use Rattle.script.specs.Paths.{Stepped, StepAt, Pathed, StepsAt, PathAt}
+use Rattle.script.specs.declared.numbers.Number.{Number}
+use Rattle.script.specs.declared.numbers.Number.the-variants as number
 use Rattle.script.specs.declared.paths.StepRead.{StepRead}
 use Rattle.script.specs.declared.paths.StepRead.the-variants as found
 use Rattle.script.specs.declared.paths.Steps.{Steps}
@@ -35,7 +36,7 @@ step-name {r = r} {a = a} s =
 step-label : {l r : List ℕ} {a : Step} → Stepped l a r → Numbered 255 (decimal (a .label) ++ r) (a .label) r
 step-label s = record { small = s .label-fits; ends = s .ends; same = refl }
 
-pub stepped-unique : {l r q : List ℕ} {a b : Step} → Stepped l a r → Stepped l b q → (a ≡ b) × (r ≡ q)
+stepped-unique : {l r q : List ℕ} {a b : Step} → Stepped l a r → Stepped l b q → (a ≡ b) × (r ≡ q)
 stepped-unique {r = r} {q = q} {a = a} {b = b} s t =
     let n = numbered-unique (step-name s) (step-name t) in
     let e : decimal (a .label) ++ r ≡ decimal (b .label) ++ q = cc (n .1) in
@@ -44,48 +45,46 @@ stepped-unique {r = r} {q = q} {a = a} {b = b} s t =
 
 -- ---- a step at a place of a line
 
--- no name there
-pub step-nameless : {l : List ℕ} → ((n : ℕ) (r : List ℕ) → Numbered 65535 l n r → ⊥) → (a : Step) (r : List ℕ) → Stepped l a r → ⊥
-step-nameless f a r s = f (a .name) (58 ∷ (decimal (a .label) ++ r)) (step-name s)
+module _ (l : List ℕ) (at : ℕ) {x : Number} (named : NumberAt 65535 l at x) where
+  -- no name there
+  pub step-nameless : x ≡ number.None → StepAt l at found.None
+  step-nameless e a r s = subst (NumberAt 65535 l at) e named (a .name) (58 ∷ (decimal (a .label) ++ r)) (step-name s)
 
-module _ (l : List ℕ) (at : ℕ) {n colon : ℕ} (named : (at < colon) × (colon ≤ length l) × Numbered 65535 (drop at l) n (drop colon l)) {t : Bool}
-    (e : t ≡ begins 58 (drop colon l)) where
-  -- what follows the name of a step there
-  behind-name : (a : Step) (r : List ℕ) → Stepped (drop at l) a r → drop colon l ≡ 58 ∷ (decimal (a .label) ++ r)
-  behind-name a r s = numbered-unique (named .2) (step-name s) .1
+  module _ {n colon : ℕ} (name-is : x ≡ number.Is n colon) {t : Bool} (e : t ≡ begins 58 (drop colon l)) where
+    name-read : NumberAt 65535 l at (number.Is n colon)
+    name-read = subst (NumberAt 65535 l at) name-is named
 
-  -- no colon behind it
-  pub step-alone : not t ≡ true → (a : Step) (r : List ℕ) → Stepped (drop at l) a r → ⊥
-  step-alone h a r s = begins-no l colon 58 e h (decimal (a .label) ++ r) (behind-name a r s)
+    -- what follows the name of a step there
+    behind-name : (a : Step) (r : List ℕ) → Stepped (drop at l) a r → drop colon l ≡ 58 ∷ (decimal (a .label) ++ r)
+    behind-name a r s = numbered-unique (name-read .2) (step-name s) .1
 
-  module _ (h : not t ≡ false) where
-    pub colon-within : colon + 1 ≤ length l
-    colon-within = omega (arith, begins-yes l colon 58 e h .within)
+    -- no colon behind it
+    pub step-alone : not t ≡ true → StepAt l at found.None
+    step-alone h a r s = begins-no l colon 58 e h (decimal (a .label) ++ r) (behind-name a r s)
 
-    behind-colon : drop colon l ≡ 58 ∷ drop (colon + 1) l
-    behind-colon = begins-yes l colon 58 e h .is
+    module _ (h : not t ≡ false) {y : Number} (labelled : NumberAt 255 l (colon + 1) y) where
+      -- no label behind the colon
+      pub step-unlabelled : y ≡ number.None → StepAt l at found.None
+      step-unlabelled f a r s =
+          let q : drop (colon + 1) l ≡ decimal (a .label) ++ r = cc (sym (begins-yes l colon 58 e h .is) ∙ behind-name a r s) in
+          subst (NumberAt 255 l (colon + 1)) f labelled (a .label) r (record { small = s .label-fits; ends = s .ends; same = q })
 
-    -- no label behind the colon
-    pub step-unlabelled : ((m : ℕ) (r : List ℕ) → Numbered 255 (drop (colon + 1) l) m r → ⊥) → (a : Step) (r : List ℕ) → Stepped (drop at l) a r → ⊥
-    step-unlabelled f a r s =
-        let q : drop (colon + 1) l ≡ decimal (a .label) ++ r = cc (sym behind-colon ∙ behind-name a r s) in
-        f (a .label) r (record { small = s .label-fits; ends = s .ends; same = q })
-
-    pub step-found : {m next : ℕ} → (colon + 1 < next) × (next ≤ length l) × Numbered 255 (drop (colon + 1) l) m (drop next l)
-        → (at + 3 ≤ next) × (next ≤ length l) × Stepped (drop at l) (record { name = n; label = m }) (drop next l)
-    unfolding stepText
-    step-found {m} {next} k = (
-      omega (arith, named .0, k .0),
-      k .1,
-      record {
-        name-fits = named .2 .small;
-        label-fits = k .2 .small;
-        ends = k .2 .ends;
-        same =
-            named .2 .same ∙ ap (λ (r : List ℕ). decimal n ++ r) (behind-colon ∙ ap (λ (r : List ℕ). 58 ∷ r) (k .2 .same))
-            ∙ sym (append-assoc (decimal n) (58 ∷ decimal m) (drop next l));
-      },
-    )
+      -- a name, a colon and a label
+      pub step-found : {m next : ℕ} → y ≡ number.Is m next → StepAt l at (found.Is n m next)
+      unfolding stepText
+      step-found {m} {next} f =
+          let k : NumberAt 255 l (colon + 1) (number.Is m next) = subst (NumberAt 255 l (colon + 1)) f labelled in (
+            omega (arith, name-read .0, k .0),
+            k .1,
+            record {
+              name-fits = name-read .2 .small;
+              label-fits = k .2 .small;
+              ends = k .2 .ends;
+              same =
+                  name-read .2 .same ∙ ap (λ (r : List ℕ). decimal n ++ r) (begins-yes l colon 58 e h .is ∙ ap (λ (r : List ℕ). 58 ∷ r) (k .2 .same))
+                  ∙ sym (append-assoc (decimal n) (58 ∷ decimal m) (drop next l));
+            },
+          )
 
 -- ---- steps parted by /
 
@@ -131,6 +130,10 @@ path-of {r = r} a p s t k = record {
   same = s .same ∙ sym (after-text a p r);
 }
 
+-- the path behind the first step and a /
+path-others : {l m r : List ℕ} {a b : Step} {p : List Step} → Pathed l (a ∷ b ∷ p) r → m ≡ pathText (b ∷ p) ++ r → Pathed m (b ∷ p) r
+path-others {a = a} {b = b} {p = p} x e = record { ranges = and-r (fits a) (pathInRange (b ∷ p)) (x .ranges); ends = x .ends; same = e }
+
 -- a path of which the steps q are passed and l is left: its first step b and those after it
 pub record Rest (q : List Step) (l : List ℕ) (p : List Step) (r : List ℕ) : Type 0 where
   pub first : Step
@@ -143,21 +146,21 @@ pub record Walk (k : List ℕ) (q : List Step) (l : List ℕ) : Type 0 where
   pub forth : (a : Step) (p : List Step) (r : List ℕ) → Pathed l (a ∷ p) r → Pathed k (q ++ (a ∷ p)) r
   pub back : (a : Step) (p : List Step) (r : List ℕ) → Pathed k (a ∷ p) r → Rest q l (a ∷ p) r
 
-pub walk-start : (l : List ℕ) → Walk l [] l
+walk-start : (l : List ℕ) → Walk l [] l
 walk-start l = record { forth = λ a p r s. s; back = λ a p r s. record { first = a; others = p; is = refl; left = s } }
 
 module _ {k l : List ℕ} {q : List Step} (inv : Walk k q l) where
   -- no step is left
-  pub walk-none : ((a : Step) (r : List ℕ) → Stepped l a r → ⊥) → (a : Step) (p : List Step) (r : List ℕ) → Pathed k (a ∷ p) r → ⊥
+  walk-none : ((a : Step) (r : List ℕ) → Stepped l a r → ⊥) → (a : Step) (p : List Step) (r : List ℕ) → Pathed k (a ∷ p) r → ⊥
   walk-none f a p r s = let b = inv .back a p r s in f (b .first) (after (b .others) r) (path-first (b .first) (b .others) (b .left))
 
   module _ {c : Step} {m : List ℕ} (step : Stepped l c m) where
     -- the step is the last
-    pub walk-end : T (closes m) → Pathed k (q ++ (c ∷ [])) m
+    walk-end : T (closes m) → Pathed k (q ++ (c ∷ [])) m
     walk-end t = inv .forth c [] m (path-of c [] step tt t)
 
     -- it is followed by neither
-    pub walk-stop : closes m ≡ false → ((r : List ℕ) → m ≡ 47 ∷ r → ⊥) → (a : Step) (p : List Step) (r : List ℕ) → Pathed k (a ∷ p) r → ⊥
+    walk-stop : closes m ≡ false → ((r : List ℕ) → m ≡ 47 ∷ r → ⊥) → (a : Step) (p : List Step) (r : List ℕ) → Pathed k (a ∷ p) r → ⊥
     walk-stop f g a p r s = go (b .others) (b .left)
       where
         b : Rest q l (a ∷ p) r
@@ -171,7 +174,7 @@ module _ {k l : List ℕ} {q : List Step} (inv : Walk k q l) where
 
 module _ {k l : List ℕ} {q : List Step} (inv : Walk k q l) {c : Step} {m : List ℕ} (step : Stepped l c (47 ∷ m)) where
   -- another step follows
-  pub walk-next : Walk k (q ++ (c ∷ [])) m
+  walk-next : Walk k (q ++ (c ∷ [])) m
   walk-next = record { forth = ahead; back = behind }
     where
       ahead : (a : Step) (p : List Step) (r : List ℕ) → Pathed m (a ∷ p) r → Pathed k (q ++ (c ∷ []) ++ (a ∷ p)) r
@@ -191,22 +194,14 @@ module _ {k l : List ℕ} {q : List Step} (inv : Walk k q l) {c : Step} {m : Lis
               absurd (rw (← e) at (x .ends))
           go (d ∷ o) i x =
               let u = stepped-unique step (path-first (b .first) (d ∷ o) x) in
-              let e : m ≡ pathText (d ∷ o) ++ r = cc (u .1) in
               record {
                 first = d;
                 others = o;
                 is = i ∙ rw (← (u .0)) (sym (append-snoc q c (d ∷ o)));
-                left = record { ranges = and-r (fits (b .first)) (pathInRange (d ∷ o)) (x .ranges); ends = x .ends; same = e };
+                left = path-others x (cc (u .1));
               }
 
 -- ---- steps at a place of a line, written into a buffer
-
-pub step-is : (at : ℕ) (l : List ℕ) {x : StepRead} → StepAt l at x → {n m next : ℕ} → x ≡ found.Is n m next
-    → (at + 3 ≤ next) × (next ≤ length l) × Stepped (drop at l) (record { name = n; label = m }) (drop next l)
-step-is at l h e = subst (λ (x : StepRead). StepAt l at x) e h
-
-pub step-none : (at : ℕ) (l : List ℕ) {x : StepRead} → StepAt l at x → x ≡ found.None → (a : Step) (r : List ℕ) → Stepped (drop at l) a r → ⊥
-step-none at l h e = subst (λ (x : StepRead). StepAt l at x) e h
 
 -- n steps from at to i stand in the buffer b, which was c
 pub record Trail (l : List ℕ) (at : ℕ) (c b : List ℕ) (i n : ℕ) : Type 0 where
@@ -215,35 +210,48 @@ pub record Trail (l : List ℕ) (at : ℕ) (c b : List ℕ) (i n : ℕ) : Type 0
   pub passed : at + 4 * n ≤ i
   pub size : length b ≡ length c
 
+-- no step is passed
 pub trail-start : (l : List ℕ) (at : ℕ) (b : List ℕ) → at ≤ length l → Trail l at b b at 0
 trail-start l at b h = record { walk = walk-start (drop at l); within = h; passed = omega arith; size = refl }
 
-module _ {l : List ℕ} {at : ℕ} {c b : List ℕ} {i n : ℕ} (inv : Trail l at c b i n) where
-  pub trail-none : {x : StepRead} → StepAt l i x → x ≡ found.None → (a : Step) (p : List Step) (r : List ℕ) → Pathed (drop at l) (a ∷ p) r → ⊥
-  trail-none h e = walk-none (inv .walk) (step-none i l h e)
+module _ {l : List ℕ} {at : ℕ} {c b : List ℕ} {i n : ℕ} (inv : Trail l at c b i n) {x : StepRead} (there : StepAt l i x) where
+  -- no step is left
+  pub trail-none : x ≡ found.None → (a : Step) (p : List Step) (r : List ℕ) → Pathed (drop at l) (a ∷ p) r → ⊥
+  trail-none e = walk-none (inv .walk) (subst (StepAt l i) e there)
 
-  module _ (short : length l ≤ 256) (room : 192 ≤ length c) {name label next : ℕ}
-      (step : (i + 3 ≤ next) × (next ≤ length l) × Stepped (drop i l) (record { name = name; label = label }) (drop next l)) where
-    pub trail-room : 3 * n + 3 ≤ length b
-    trail-room = omega (arith, inv .passed, inv .size, step .0, step .1)
+  module _ (short : length l ≤ 256) (room : 192 ≤ length c) {name label next : ℕ} (step-is : x ≡ found.Is name label next) where
+    step : StepAt l i (found.Is name label next)
+    step = subst (StepAt l i) step-is there
+
+    -- the buffer has room for the step, whose numbers fit
+    pub trail-room : (3 * n + 3 ≤ length b) × ((name ≤ 65535) × (label ≤ 255))
+    trail-room = (omega (arith, inv .passed, inv .size, step .0, step .1), (step .2 .name-fits, step .2 .label-fits))
+
+    -- less of the line is left behind it
+    pub trail-less : suc (length l) - (next + 1) < suc (length l) - i
+    trail-less = omega (arith, step .0, step .1)
 
     module _ {d : List ℕ} (put : d ≡ putStep b n name label) where
       put-steps : stepsOf (take (3 * (n + 1)) d) ≡ stepsOf (take (3 * n) b) ++ (record { name = name; label = label } ∷ [])
-      put-steps = rw put (steps-put b n name label trail-room)
+      put-steps = rw put (steps-put b n name label (trail-room .0))
 
+      -- the buffer keeps its length
       pub trail-size : length d ≡ length c
       trail-size = ap length put ∙ length-put b n name label ∙ inv .size
 
       module _ {t : Bool} (e : t ≡ closes (drop next l)) where
-        pub trail-end : t ≡ true → (3 * (n + 1) ≤ 192) × (next ≤ length l) × Pathed (drop at l) (stepsOf (take (3 * (n + 1)) d)) (drop next l)
+        -- the step is the last
+        pub trail-end : t ≡ true → StepsAt l at d (Are (n + 1) next)
         trail-end h =
             let k : T (closes (drop next l)) = rw (← e, h) tt in
             (omega (arith, inv .passed, step .0, step .1), step .1, rw put-steps (walk-end (inv .walk) (step .2) k))
 
         module _ (h : t ≡ false) {u : Bool} (f : u ≡ begins 47 (drop next l)) where
+          -- neither the end nor a / follows it
           pub trail-stop : not u ≡ true → (a : Step) (p : List Step) (r : List ℕ) → Pathed (drop at l) (a ∷ p) r → ⊥
           trail-stop g = walk-stop (inv .walk) (step .2) (sym e ∙ h) (begins-no l next 47 f g)
 
+          -- a / follows it
           pub trail-next : not u ≡ false → Trail l at c d (next + 1) (n + 1)
           trail-next g =
               let y : Here l next 47 = begins-yes l next 47 f g in
@@ -279,12 +287,14 @@ module _ (l : List ℕ) (at : ℕ) {t : Bool} (e : t ≡ begins 47 (drop at l)) 
     slash : Here l at 47
     slash = begins-yes l at 47 e h
 
+    -- a / that something other than the end follows
     pub path-open : not u ≡ true → (p : List Step) (r : List ℕ) → Pathed (drop at l) p r → ⊥
     path-open g [] r k =
         let q : drop (at + 1) l ≡ r = cc (sym (slash .is) ∙ k .same) in
         T-not (closes r) (k .ends) (rw (← q, ← f, g) tt)
     path-open g (a ∷ p) r k = number-slash (step-name (path-first a p k)) (sym e ∙ not-false t h)
 
+    -- a lone /
     pub path-root : not u ≡ false → (b : List ℕ) → PathAt l at b (Are 0 (at + 1))
     path-root g b = (omega arith, omega (arith, slash .within), record { ranges = tt; ends = rw (← f, not-false u g) tt; same = slash .is })
 
@@ -303,7 +313,5 @@ pathed-unique (a ∷ c ∷ p) (b ∷ []) x y = absurd (rw (stepped-unique (path-
 pathed-unique (a ∷ c ∷ p) (b ∷ d ∷ q) {r} {s} x y =
     let u = stepped-unique (path-first a (c ∷ p) x) (path-first b (d ∷ q) y) in
     let e : pathText (c ∷ p) ++ r ≡ pathText (d ∷ q) ++ s = cc (u .1) in
-    let f : Pathed (pathText (c ∷ p) ++ r) (c ∷ p) r = record { ranges = and-r (fits a) (pathInRange (c ∷ p)) (x .ranges); ends = x .ends; same = refl } in
-    let g : Pathed (pathText (c ∷ p) ++ r) (d ∷ q) s = record { ranges = and-r (fits b) (pathInRange (d ∷ q)) (y .ranges); ends = y .ends; same = e } in
-    let w = pathed-unique (c ∷ p) (d ∷ q) f g in
+    let w = pathed-unique (c ∷ p) (d ∷ q) (path-others x refl) (path-others y e) in
     (ap₂ (λ (k : Step) (o : List Step). k ∷ o) (u .0) (w .0), w .1)

@@ -5,8 +5,7 @@ use Prim.Native.Nat.{ℕ, _≤_, _<_}
 use lib.ListN.{length, drop}
 use lib.Dec.{T}
 use Rattle.model.specs.Lists.{all, between}
-use Rattle.model.specs.Text.{decimal}
-use Rattle.model.proofs.Decimal.{isDigit, digitsValue}
+use Rattle.model.specs.Text.{decimal, isDigit, digitsValue}
 use Rattle.script.specs.Text.{noDigit}
 use Rattle.script.specs.declared.numbers.Number.{Number}
 use Rattle.script.specs.declared.numbers.Number.the-variants.{Is, None}

@@ -3,7 +3,7 @@ use mathlib.Core.Bool.{Bool, true, false, not}
 use mathlib.Core.List.{List, [], _∷_}
 use Prim.Native.Nat.{ℕ}
 use lib.Dec.{eqb}
-use Rattle.model.proofs.Decimal.{isDigit}
+use Rattle.model.specs.Text.{isDigit}
 
 -- with the byte b
 abbrev pub begins : ℕ → List ℕ → Bool

@@ -3,7 +3,7 @@ ghost use mathlib.Core.Path.{_≡_};
 ghost use Prim.Native.Nat.{_-_, _≤_, _<_};
 ghost use lib.ListN.{length};
 ghost use Rattle.model.specs.Lists.{between};
-ghost use Rattle.model.proofs.Decimal.{isDigit, noLeadingZero};
+ghost use Rattle.model.specs.Text.{isDigit, noLeadingZero};
 ghost use Rattle.script.specs.Numbers.{Run, NumberAt};
 
 // A number and where it ends.

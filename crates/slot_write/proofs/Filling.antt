@@ -3,8 +3,8 @@ use mathlib.Core.Path.{_≡_, refl, sym, ap, ap₂, _∙_}
 use mathlib.Core.List.{List, [], _∷_, _++_, map, map-append, append-nil, append-assoc}
 use Prim.Native.Nat.{ℕ, suc, _+_, _-_, _*_, _/_, _%_, _≤_, _<_}
 use native.Mathlib.Omega.{arith}
-use lib.ListN.{length, take, drop, getD, set, replicate, replicate-append-replicate, length-append, length-set, length-replicate, length-map, drop-of-length-le, take-append-drop}
-use lib.Seq.{length-take-le, take-all, take-at, drop-at, drop-drop, drop-length, drop-cons, append-snoc, set-at}
+use lib.ListN.{length, take, drop, getD, set, replicate, replicate-append-replicate, length-append, length-set, length-replicate, length-map, drop-of-length-le}
+use lib.Seq.{take-all, take-at, take-suc-set, drop-drop, drop-length, append-snoc, set-at}
 use borrow.Rule.Slice.PartMut.{putMid}
 use Rattle.model.specs.Lists.{gather, range, pad}
 use Rattle.model.specs.Path.{Step, stepsOf}
@@ -62,6 +62,7 @@ pub record Laid (n : ℕ) (f : List Step → List ℕ) (p s : List ℕ) (i : ℕ
   pub is : s ≡ pad n (f (range (lentStep p) 0 i))
   pub size : length s ≡ n
 
+-- a field of zeros holds no step
 pub laid-start : (n : ℕ) (f : List Step → List ℕ) (p xs : List ℕ) {s : List ℕ} → f [] ≡ [] → length xs ≡ n → s ≡ replicate (length xs) 0 → Laid n f p s 0
 laid-start n f p xs e l h =
     record {
@@ -70,9 +71,11 @@ laid-start n f p xs e l h =
       size = ap length h ∙ length-replicate (length xs) 0 ∙ l;
     }
 
+-- with as many steps as the path has, all
 pub laid-end : {n : ℕ} {f : List Step → List ℕ} {p s : List ℕ} {i : ℕ} → Laid n f p s i → length p / 3 ≤ i → s ≡ pad n (f (stepsOf p))
 laid-end {p = p} {i = i} inv h = let e : i ≡ length p / 3 = omega (arith, inv .within) in inv .is ∙ rw (e, lent-range p)
 
+-- the two bytes of the next name are written
 pub names-next : {p s : List ℕ} {i : ℕ} → Laid 12 (gather nameBytes) p s i → length p ≤ 20 → i < length p / 3 → getD p (3 * i) 0 < 256
     → Laid 12 (gather nameBytes) p (set (set s (2 * i) (getD p (3 * i) 0)) (2 * i + 1) (getD p (3 * i + 1) 0)) (i + 1)
 names-next {p} {s} {i} inv few h byte =
@@ -102,6 +105,7 @@ names-next {p} {s} {i} inv few h byte =
 abbrev pub labels : List Step → List ℕ
 labels l = map (λ (a : Step). a .label) l
 
+-- the next label is written
 pub labels-next : {p s : List ℕ} {i : ℕ} → Laid 6 labels p s i → length p ≤ 20 → i < length p / 3 → Laid 6 labels p (set s i (getD p (3 * i + 2) 0)) (i + 1)
 labels-next {p} {s} {i} inv few h =
     let l : List ℕ = labels (range (lentStep p) 0 i) in
@@ -114,46 +118,11 @@ labels-next {p} {s} {i} inv few h =
       size = length-set s i (getD p (3 * i + 2) 0) ∙ inv .size;
     }
 
--- ---- a list written from its front
-
--- s is xs with d in the place of its first members
-record Begun (d xs s : List ℕ) : Type 0 where
-  within : length d ≤ length xs
-  is : s ≡ d ++ drop (length d) xs
-
-begin : (n : ℕ) (xs : List ℕ) → n ≤ length xs → Begun (take n xs) xs xs
-begin n xs h = let l : length (take n xs) ≡ n = length-take-le n xs h in record { within = omega arith; is = rw l (sym (take-append-drop n xs)) }
-
-module _ {d xs s : List ℕ} (inv : Begun d xs s) where
-  begun-byte : (x a : ℕ) → length d ≡ a → a < length xs → Begun (d ++ (x ∷ [])) xs (set s a x)
-  begun-byte x a h k =
-      let m : length (d ++ (x ∷ [])) ≡ suc a = simp length-append (omega arith) in
-      let before : s ≡ d ++ (getD xs a 0 ∷ drop (suc a) xs) = inv .is ∙ rw (h, drop-cons xs a 0 k) in
-      record {
-        within = omega arith;
-        is =
-            ap (λ (r : List ℕ). set r a x) before
-            ∙ set-at d (getD xs a 0) (drop (suc a) xs) x a h
-            ∙ rw m (sym (append-snoc d x (drop (suc a) xs)));
-      }
-
-  begun-part : (f : List ℕ) (a k : ℕ) → length d ≡ a → length f ≡ k → a + k ≤ length xs → Begun (d ++ f) xs (putMid a k s f)
-  begun-part f a k h l w =
-      let m : length (d ++ f) ≡ a + k = simp length-append (omega arith) in
-      record {
-        within = omega arith;
-        is =
-            ap (λ (r : List ℕ). putMid a k r f) (inv .is)
-            ∙ rw (take-at d (drop (length d) xs) a h, drop-at d (drop (length d) xs) a h, h, drop-drop k a xs, m) (sym (append-assoc d f (drop (a + k) xs)));
-      }
-
-  begun-front : (n : ℕ) → length d ≡ n → take n s ≡ d
-  begun-front n h = ap (take n) (inv .is) ∙ take-at d (drop (length d) xs) n h
-
-  begun-all : length d ≡ length xs → s ≡ d
-  begun-all h = inv .is ∙ rw (drop-of-length-le xs {i = length d} (omega arith)) (append-nil d)
-
 -- ---- a slot written field by field
+
+-- what stands up to the end of a part that is written
+front-put : (a k : ℕ) (s f : List ℕ) → length (take a s) ≡ a → length f ≡ k → take (a + k) (putMid a k s f) ≡ take a s ++ f
+front-put a k s f h l = rw (← (append-assoc (take a s) f (drop k (drop a s)))) (take-at (take a s ++ f) (drop k (drop a s)) (a + k) (simp length-append (omega arith)))
 
 -- the content's fields, one after another
 regroup : (front v s : List ℕ) (k n : ℕ) → ((front ++ (k ∷ [])) ++ (n ∷ [])) ++ (v ++ s) ≡ front ++ (pad 1 (k ∷ []) ++ pad 1 (n ∷ []) ++ v ++ s)
@@ -165,18 +134,13 @@ module _ (xs : List ℕ) (size : length xs ≡ slotSize) where
       → putMid valueAt (slotSize - valueAt) (set (set xs kindAt k) lengthAt (length v)) y ≡ take kindAt xs ++ contentBytes (record { kind = k; value = v })
   unfolding contentBytes
   content-written k v {y} e =
-      let front : List ℕ = take kindAt xs in
-      let d : List ℕ = (front ++ (k ∷ [])) ++ (length v ∷ []) in
-      let l : length front ≡ kindAt = length-take-le kindAt xs (omega arith) in
-      let m : length (front ++ (k ∷ [])) ≡ lengthAt = simp length-append (omega arith) in
-      let n : length d ≡ valueAt = simp length-append (omega arith) in
-      let r : length y ≡ 19 = ap length e ∙ length-append (pad 16 v) (pad 3 []) ∙ ap₂ (λ (i j : ℕ). i + j) (length-pad 16 v) (length-pad 3 []) in
-      let a : length (d ++ y) ≡ length xs = simp length-append (omega arith) in
-      let kind = begun-byte (begin kindAt xs (omega arith)) k kindAt l (omega arith) in
-      let whole = begun-part (begun-byte kind (length v) lengthAt m (omega arith)) y valueAt 19 n r (omega arith) in
-      begun-all whole a
-      ∙ ap (λ (t : List ℕ). d ++ t) e
-      ∙ regroup front (pad 16 v) (pad 3 []) k (length v)
+      let s : List ℕ = set (set xs kindAt k) lengthAt (length v) in
+      let l : length (set xs kindAt k) ≡ slotSize = length-set xs kindAt k ∙ size in
+      let m : length s ≡ slotSize = length-set (set xs kindAt k) lengthAt (length v) ∙ l in
+      let front : take valueAt s ≡ (take kindAt xs ++ (k ∷ [])) ++ (length v ∷ []) =
+      take-suc-set (set xs kindAt k) lengthAt (length v) (omega arith) ∙ ap (λ (r : List ℕ). r ++ (length v ∷ [])) (take-suc-set xs kindAt k (omega arith)) in
+      ap₂ (λ (r t : List ℕ). r ++ (y ++ t)) front (drop-drop 19 valueAt s ∙ drop-of-length-le s {i = slotSize} (omega arith))
+      ∙ rw (append-nil y, e) (regroup (take kindAt xs) (pad 16 v) (pad 3 []) k (length v))
 
   -- the depth, the names and the labels, and the content behind them
   pub slot-written : (p : List ℕ) (c : Content) {x y z : List ℕ} → x ≡ field namesAt labelsAt (gather nameBytes (stepsOf p))
@@ -185,13 +149,12 @@ module _ (xs : List ℕ) (size : length xs ≡ slotSize) where
       → z ≡ slotBytes (record { path = stepsOf p; content = c })
   unfolding slotBytes pathBytes
   slot-written p c {x} {y} e f g =
-      let d : List ℕ = length p / 3 ∷ [] in
+      let s : List ℕ = set xs 0 (length p / 3) in
+      let d : take 1 s ≡ length p / 3 ∷ [] = take-suc-set xs 0 (length p / 3) (omega arith) in
       let n : length x ≡ 12 = ap length e ∙ length-pad 12 (gather nameBytes (stepsOf p)) in
       let m : length y ≡ 6 = ap length f ∙ length-pad 6 (labels (stepsOf p)) in
-      let l : length (d ++ x) ≡ labelsAt = simp length-append (omega arith) in
-      let a : length ((d ++ x) ++ y) ≡ kindAt = simp length-append (omega arith) in
-      let names = begun-part (begun-byte (begin 0 xs (omega arith)) (length p / 3) 0 refl (omega arith)) x namesAt 12 refl n (omega arith) in
-      let path = begun-part names y labelsAt 6 l m (omega arith) in
+      let names : take labelsAt (putMid namesAt 12 s x) ≡ length p / 3 ∷ x = front-put namesAt 12 s x (ap length d) n ∙ ap (λ (r : List ℕ). r ++ x) d in
       g
-      ∙ ap (λ (r : List ℕ). r ++ contentBytes c) (begun-front path kindAt a)
+      ∙ ap (λ (r : List ℕ). r ++ contentBytes c)
+      (front-put labelsAt 6 (putMid namesAt 12 s x) y (ap length names ∙ ap suc n) m ∙ ap (λ (r : List ℕ). r ++ y) names)
       ∙ rw (pad-one (length (stepsOf p)), length-steps p, e, f)

@@ -13,7 +13,7 @@ use Rattle.model.specs.Label.{labels, dominates}
 use Rattle.model.specs.Partition.{partitionSize, readPartition, wellFormed}
 use Rattle.model.specs.Store.{storeSize, partition}
 use Rattle.model.specs.Model.{held, raw, isHeld, elements, openCell, openModel, ownSet}
-use Rattle.model.specs.Call.{someRaw}
+use Rattle.model.specs.Rows.{someRaw}
 use Rattle.model.proofs.Bools.{decide, cond-yes, cond-no, is-true, is-false}
 use Rattle.model.proofs.Dominance.{label-lt, dominates-upper, dominates-lower, dominates-le}
 use Rattle.model.proofs.Stores.{yes-has, partition-part}

@@ -15,7 +15,7 @@ use Rattle.model.specs.Partition.{partitionSize, readPartition, wellFormed}
 use Rattle.model.specs.Store.{partition}
 use Rattle.model.specs.Model.{isHeld, openCell, openModel, ownSet}
 use Rattle.model.specs.View.{visible, reaches, inView}
-use Rattle.model.specs.Call.{someRaw}
+use Rattle.model.specs.Rows.{someRaw}
 use Rattle.model.proofs.Bools.{decide, cond-yes, is-true, is-false}
 use Rattle.model.proofs.Members.{not-any, in-any}
 use Rattle.model.proofs.Walks.{Left, in-range}

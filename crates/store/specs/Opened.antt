@@ -11,7 +11,7 @@ use Rattle.model.specs.Path.{Step, isPrefix}
 use Rattle.model.specs.Element.{contains}
 use Rattle.model.specs.Store.{storeSize}
 use Rattle.model.specs.Model.{isHeld, openModel, ownSet}
-use Rattle.model.specs.Call.{someRaw}
+use Rattle.model.specs.Rows.{someRaw}
 
 -- rows 1, 2 and 3 do not apply: the size is right, the subject is a label, and the partitions that he dominates are well formed
 pub record Opened (b : List ℕ) (s : ℕ) : Type 0 where

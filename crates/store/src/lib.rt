@@ -14,7 +14,7 @@ ghost use Rattle.model.specs.Partition.{partitionSize};
 ghost use Rattle.model.specs.Store.{storeSize, partition};
 ghost use Rattle.model.specs.Model.{isHeld, openModel};
 ghost use Rattle.model.specs.View.{inView};
-ghost use Rattle.model.specs.Call.{someRaw};
+ghost use Rattle.model.specs.Rows.{someRaw};
 ghost use Rattle.store.specs.Opened.{Opened, belowAt};
 
 // The partition of a label that the subject dominates: that part of the lent store.

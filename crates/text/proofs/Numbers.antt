@@ -6,7 +6,6 @@ use native.Mathlib.Omega.{arith}
 use borrow.Author.Tests.{lt-ltb, le-ltb}
 use Rattle.model.specs.Text.{decimal, signed}
 use Rattle.model.proofs.Decimal.{decimal-one, decimal-more}
-use Rattle.text.specs.Overlay.{Wrote}
 use Rattle.text.specs.Digits.{pair, four}
 
 -- ---- by two and by four digits
@@ -42,15 +41,6 @@ decimal-myriads n h =
     ∙ append-assoc (decimal (n / 100 / 100)) (pair (n / 100 % 100)) (pair (n % 100))
     ∙ ap (λ (m : ℕ). decimal m ++ (pair (n / 100 % 100) ++ pair (n % 100))) q
     ∙ ap₂ (λ (a b : ℕ). decimal (n / 10000) ++ (pair a ++ pair b)) t o
-
--- where two and where four digits end
-pub pair-ends : (n : ℕ) {o o′ : List ℕ} {a r : ℕ} → Wrote o a (pair n) o′ r → r ≡ a + 2
-unfolding pair
-pair-ends n w = w .ends
-
-pub four-ends : (n : ℕ) {o o′ : List ℕ} {a r : ℕ} → Wrote o a (four n) o′ r → r ≡ a + 4
-unfolding four pair
-four-ends n w = w .ends
 
 -- ---- with a sign
 

@@ -1,6 +1,6 @@
 // A number in decimal, by two and by four digits, so that few divisions and no loop are needed.
 ghost use mathlib.Core.Path.{_≡_};
-ghost use Prim.Native.Nat.{_+_, _≤_, _<_};
+ghost use Prim.Native.Nat.{_+_, _<_};
 ghost use Rattle.model.specs.Text.{decimal};
 ghost use Rattle.text.specs.Overlay.{Wrote};
 ghost use Rattle.text.specs.Digits.{pair, four};
@@ -36,7 +36,6 @@ fn put_four(out: &mut [u8], at: usize, n: u32) -> usize
 fn put_below_100(out: &mut [u8], at: usize, n: u32) -> usize
     requires { ⌜ (at + 2 < 4294967296) × (n < 100) ⌝ }
     ensures { λ r. ⌜ Wrote (now (out .entry)) at (decimal n) (now (out .exit)) r ⌝ }
-    ensures { λ r. ⌜ r ≤ at + 2 ⌝ }
 {
     if n < 10 {
         return put_byte(out, at, digit(n));
@@ -48,7 +47,6 @@ fn put_below_100(out: &mut [u8], at: usize, n: u32) -> usize
 fn put_below_10000(out: &mut [u8], at: usize, n: u32) -> usize
     requires { ⌜ (at + 4 < 4294967296) × (n < 10000) ⌝ }
     ensures { λ r. ⌜ Wrote (now (out .entry)) at (decimal n) (now (out .exit)) r ⌝ }
-    ensures { λ r. ⌜ r ≤ at + 4 ⌝ }
 {
     if n < 100 {
         return put_below_100(out, at, n);
@@ -61,7 +59,6 @@ fn put_below_10000(out: &mut [u8], at: usize, n: u32) -> usize
 fn put_below_1000000(out: &mut [u8], at: usize, n: u32) -> usize
     requires { ⌜ (at + 6 < 4294967296) × (n < 1000000) ⌝ }
     ensures { λ r. ⌜ Wrote (now (out .entry)) at (decimal n) (now (out .exit)) r ⌝ }
-    ensures { λ r. ⌜ r ≤ at + 6 ⌝ }
 {
     if n < 10000 {
         return put_below_10000(out, at, n);
@@ -74,7 +71,6 @@ fn put_below_1000000(out: &mut [u8], at: usize, n: u32) -> usize
 pub fn put_decimal(out: &mut [u8], at: usize, n: u32) -> usize
     requires { ⌜ at + 10 < 4294967296 ⌝ }
     ensures { λ r. ⌜ Wrote (now (out .entry)) at (decimal n) (now (out .exit)) r ⌝ }
-    ensures { λ r. ⌜ r ≤ at + 10 ⌝ }
 {
     if n < 10000 {
         return put_below_10000(out, at, n);

@@ -53,7 +53,6 @@ pub fn measure_of(v: &[u8]) -> u32
 pub fn put_signed(out: &mut [u8], at: usize, m: u32) -> usize
     requires { ⌜ at + 11 < 4294967296 ⌝ }
     ensures { λ r. ⌜ Wrote (now (out .entry)) at (signed m) (now (out .exit)) r ⌝ }
-    ensures { λ r. ⌜ r ≤ at + 11 ⌝ }
 {
     if m < 2147483648 {
         return put_decimal(out, at, m);
@@ -67,7 +66,6 @@ pub fn put_value(out: &mut [u8], at: usize, kind: u8, value: &[u8]) -> usize
     requires { ⌜ at + 16 < 4294967296 ⌝ }
     requires { ⌜ T (allowed kind (now value)) ⌝ }
     ensures { λ r. ⌜ Wrote (now (out .entry)) at (shown kind (now (value .entry))) (now (out .exit)) r ⌝ }
-    ensures { λ r. ⌜ r ≤ at + 16 ⌝ }
 {
     let rule = kind::rule_of(octets::wide(kind));
     if rule.number {

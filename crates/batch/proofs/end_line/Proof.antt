@@ -13,7 +13,7 @@ end-line-spec =
     (λ c. search needs)  -- same-length
     (λ c. search needs)  -- same-length-2
     (λ c. search needs)  -- same-length-3
-    (λ c. carried-fresh _ (c .before .before .before .before .before .before .before .before .before .before .if1 .taken) (c .before .before .before .before .before .before .carry-out .ensures))  -- returns
+    (λ c. search carried-fresh)  -- returns
     (λ c. search needs)  -- keep-requires
     (λ c. search needs)  -- sub-carry-out
     (λ c. search needs)  -- part-carry-out-start
@@ -23,9 +23,5 @@ end-line-spec =
     (λ c. search needs)  -- same-length-5
     (λ c. search needs)  -- same-length-6
     (λ c. search needs)  -- same-length-7
-    (λ c.
-    let called = c .before .before .before .before .before .before in
-    let put = called .before .before .before .before .before .before .before .before in
-    let start = put .before .before .before .before .before .before .before .before in
-    carried-kept (put .keep .ensures) (start .pre .0 .0) (start .pre .0 .1) (sub-zero _) (called .carry-out2 .ensures))  -- returns-2
+    (λ c. search (carried-kept, sub-zero))  -- returns-2
     )

@@ -8,12 +8,10 @@ pub finish-spec : {M : Type 1} → statement M
 finish-spec =
     tie.close
     (tie.spec
-    (λ c. finish-none (c .before .before .before .before .before .args .line .now) _ _ (c .if1 .taken))  -- returns
+    (λ c. search finish-none)  -- returns
     (λ c. search needs)  -- carry-out-requires
     (λ c. search needs)  -- same-length
     (λ c. search needs)  -- same-length-2
     (λ c. search needs)  -- same-length-3
-    (λ c.
-    let called = c .before .before .before .before .before .before in
-    finish-last _ (called .before .before .before .before .if1 .left) (called .carry-out .ensures))  -- returns-2
+    (λ c. search finish-last)  -- returns-2
     )

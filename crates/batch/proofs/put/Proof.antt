@@ -24,7 +24,7 @@ put-spec =
     (λ c. search needs)  -- slice-write-line
     (λ c. search needs)  -- add-i
     (λ c. search needs)  -- loop-less
-    (λ c. put-next (c .before .before .loop .inv) (c .before .loop-test .taken))  -- loop-again
+    (λ c. search put-next)  -- loop-again
     (λ c. search needs)  -- same-length
-    (λ c. put-end (c .before .loop .inv) (c .loop-test .left))  -- returns
+    (λ c. search put-end)  -- returns
     )

@@ -12,10 +12,7 @@ take-in-spec =
     (λ c. search needs)  -- line-end-requires
     (λ c. search needs)  -- keep-requires
     (λ c. search needs)  -- same-length
-    (λ c.
-    let ended = c .before .before .before .before .before in
-    let start = ended .before .before .before .before .before .before in
-    taken-whole (c .before .before .keep .ensures) (start .pre .0 .0) (start .pre .0 .1) _ _ (ended .line-end .ensures .0) (c .before .before .before .before .if1 .taken))  -- returns
+    (λ c. search taken-whole)  -- returns
     (λ c. search needs)  -- add-next
     (λ c. search needs)  -- sub-end-line
     (λ c. search needs)  -- part-end-line-start
@@ -25,8 +22,9 @@ take-in-spec =
     (λ c. search needs)  -- same-length-3
     (λ c. search needs)  -- same-length-4
     (λ c. search needs)  -- same-length-5
+    -- returns-2
     (λ c.
     let called = c .before .before .before .before .before .before .before .before in
     let tested = called .before .before .before .before .before .before in
-    taken-line _ (tested .before .line-end .ensures .0) (tested .if1 .left) (sub-zero _) (called .end-line .ensures))  -- returns-2
+    taken-line _ (tested .before .line-end .ensures .0) (tested .if1 .left) (sub-zero _) (called .end-line .ensures))
     )

@@ -2,7 +2,7 @@
 use borrow.Author.Needs.{needs}
 use native.Mathlib.Omega.{arith}
 use Rattle.octets.proofs.Tests.{slice-bytes}
-use Rattle.carry.proofs.Answering.{unread-carried, line-short, steps-few, count-few, wrote-few, call-carried}
+use Rattle.carry.proofs.Answering.{unread-carried, line-short, steps-few, count-few, wrote-few, answer-ends, call-carried}
 use Rattle.carry.proofs.carry_out.Statement.{statement}
 use Rattle.carry.proofs.carry_out.Tie as tie
 
@@ -40,14 +40,22 @@ carry-out-spec =
     (line-short (start .args .line .now) (read-line .last .1 .0) (read-line .ensures) (c .before .before .before .before .before .before .read .given .1), omega (arith, start .pre .1)))
     -- cast-put-answer
     (λ c.
+    let perform = c .before .before .before .before .before .before .perform in
+    let read = c .before .before .before .before .before .before .before .before .before .before .before .before .before .read in
+    let slice-known4 = c .before .before .before .before .before .before .before .before .before .before .before .before .before .before .before .slice-known4 in
+    let path = c .before .before .before .before .before .before .before .before .before .before .before .before .before .before .before .before .path in
     let start = c .before .before .before .before .before .before .before .before .before .before .before .before .before .before .before .before .before .before .before .before .before .before .before in
     let read-line = c .before .before .before .before .before .before .before .before .before .before .before .before .before .before .before .before .before .read-line in
-    search (needs, count-few (start .args .line .now) (read-line .last .1 .0) (read-line .ensures) (c .before .before .before .before .before .before .before .before .before .before .before .before .before .read .given .1) (slice-bytes (read-line .last .1 .0) (c .before .before .before .before .before .before .before .before .before .before .before .before .before .before .before .slice-known4 .given)) (omega (arith, c .before .before .before .before .before .before .before .before .before .before .before .before .before .before .before .before .path .given, start .pre .0)) (c .before .before .before .before .before .before .perform .ensures)))
+    search (needs, count-few (start .args .line .now) (read-line .last .1 .0) (read-line .ensures) (read .given .1) (slice-bytes (read-line .last .1 .0) (slice-known4 .given)) (omega (arith, path .given, start .pre .0)) (perform .ensures)))
     -- put-answer-requires
     (λ c κs.
+    let perform = c .before .before .before .before .before .before .perform in
+    let read = c .before .before .before .before .before .before .before .before .before .before .before .before .before .read in
+    let slice-known4 = c .before .before .before .before .before .before .before .before .before .before .before .before .before .before .before .slice-known4 in
+    let path = c .before .before .before .before .before .before .before .before .before .before .before .before .before .before .before .before .path in
     let start = c .before .before .before .before .before .before .before .before .before .before .before .before .before .before .before .before .before .before .before .before .before .before .before in
     let read-line = c .before .before .before .before .before .before .before .before .before .before .before .before .before .before .before .before .before .read-line in
-    wrote-few (start .args .line .now) (read-line .last .1 .0) (read-line .ensures) (c .before .before .before .before .before .before .before .before .before .before .before .before .before .read .given .1) (slice-bytes (read-line .last .1 .0) (c .before .before .before .before .before .before .before .before .before .before .before .before .before .before .before .slice-known4 .given)) (omega (arith, c .before .before .before .before .before .before .before .before .before .before .before .before .before .before .before .before .path .given, start .pre .0)) (c .before .before .before .before .before .before .perform .ensures))
+    wrote-few (start .args .line .now) (read-line .last .1 .0) (read-line .ensures) (read .given .1) (slice-bytes (read-line .last .1 .0) (slice-known4 .given)) (omega (arith, path .given, start .pre .0)) (perform .ensures))
     (λ c. search needs)  -- same-length-3
     (λ c. search needs)  -- same-length-4
     (λ c. search needs)  -- same-length-5
@@ -60,5 +68,9 @@ carry-out-spec =
     let read = c .before .before .before .before .before .before .before .before .before .before .before .before .before .before .before .before .read in
     let perform = c .before .before .before .before .before .before .before .before .before .perform .ensures in
     let put-answer = c .before .before .put-answer .ensures in
-    call-carried (start .args .line .now) (read-line .last .1 .0) (read-line .ensures) (read .given .1) (slice-bytes (read-line .last .1 .0) (slice-known4 .given)) (omega (arith, path .given, start .pre .0)) (perform) (put-answer .0) (omega (arith, put-answer .1, wrote-few (start .args .line .now) (read-line .last .1 .0) (read-line .ensures) (read .given .1) (slice-bytes (read-line .last .1 .0) (slice-known4 .given)) (omega (arith, path .given, start .pre .0)) (perform), start .pre .1)))
+    let line = start .args .line .now in
+    let bytes = slice-bytes (read-line .last .1 .0) (slice-known4 .given) in
+    let number = c .before .before .before .struct-known2 .given .0 in
+    let ends = answer-ends line (read-line .last .1 .0) (read-line .ensures) (read .given .1) bytes (omega (arith, path .given, start .pre .0)) perform number put-answer in
+    call-carried line (read-line .last .1 .0) (read-line .ensures) (read .given .1) bytes (omega (arith, path .given, start .pre .0)) perform put-answer (omega (arith, ends, start .pre .1)))
     )

@@ -10,7 +10,10 @@ begin-spec =
     tie.close
     (tie.spec
     (λ c. search needs)  -- carry-out-requires
-    (λ c κs. (c .before .before .before .before .before .before .before .before .pre .0, omega (arith, c .before .before .before .store .given, empty-size (c .before .before .before .before .before .before .before .before .args .store .now) (c .before .before .before .before .before .before .before .before .pre .1))))  -- save-new-requires
+    -- save-new-requires
+    (λ c κs.
+    let start = c .before .before .before .before .before .before .before .before in
+    (start .pre .0, omega (arith, c .before .before .before .store .given, empty-size (start .args .store .now) (start .pre .1))))
     (λ c. search needs)  -- same-length
     (λ c. search needs)  -- returns
     (λ c. search needs)  -- same-length-2

@@ -1,6 +1,5 @@
 -- `file_names::is_dashed`: a word without bytes has no first one.
 use borrow.Author.Needs.{needs}
-use native.Mathlib.Omega.{arith}
 use Rattle.file_names.proofs.Slashes.{dashed-none, dashed-first}
 use Rattle.file_names.proofs.is_dashed.Statement.{statement}
 use Rattle.file_names.proofs.is_dashed.Tie as tie

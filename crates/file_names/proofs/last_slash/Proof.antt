@@ -25,8 +25,16 @@ last-slash-spec =
     (λ c. (omega arith, none-behind (c .args .name .now)))  -- loop-holds
     (λ c. search needs)  -- sub-i
     (λ c. omega arith)  -- shared-slice-read-if1
-    (λ c. (found (c .before .before .before .before .args .name .now) (c .before .before .before .loop .i) (c .before .before .loop-test .taken) (c .before .before .before .loop .inv .0) (c .before .before .before .loop .inv .1) (c .if1 .taken), omega arith))  -- returns
+    -- returns
+    (λ c.
+    let loop = c .before .before .before .loop in
+    let start = c .before .before .before .before in
+    (found (start .args .name .now) (loop .i) (c .before .before .loop-test .taken) (loop .inv .0) (loop .inv .1) (c .if1 .taken), omega arith))
     (λ c. omega arith)  -- loop-less
-    (λ c. (omega arith, none-yet (c .before .before .before .before .args .name .now) (c .before .before .before .loop .i) (c .before .before .loop-test .taken) (c .before .before .before .loop .inv .0) (c .before .before .before .loop .inv .1) (c .if1 .left)))  -- loop-again
+    -- loop-again
+    (λ c.
+    let loop = c .before .before .before .loop in
+    let start = c .before .before .before .before in
+    (omega arith, none-yet (start .args .name .now) (loop .i) (c .before .before .loop-test .taken) (loop .inv .0) (loop .inv .1) (c .if1 .left)))
     (λ c. (none-left (c .before .before .args .name .now) (c .before .loop .i) (c .loop-test .left) (c .before .loop .inv .1), omega arith))  -- returns-2
     )

@@ -18,5 +18,9 @@ put-new-spec =
     (λ c. search needs)  -- part-copy-end
     (λ c. search needs)  -- copy-requires-2
     (λ c. search needs)  -- same-length
-    (λ c. (omega (arith, c .before .before .before .before .before .before .before .copy .ensures .0), named (c .before .before .before .before .before .before .before .before .before .before .before .args .name .now) (c .before .before .before .before .before .before .before .before .before .before .before .args .space .now) _ _ _ (c .before .before .before .before .before .before .before .copy .result) (c .before .before .before .before .before .before .before .copy .result + 7 - c .before .before .before .before .before .before .before .copy .result) (c .before .before .before .before .before .before .before .copy .ensures .0) (c .before .before .before .before .before .before .before .copy .ensures .1) (c .before .before .copy2 .ensures .1)))  -- returns
+    -- returns
+    (λ c.
+    let copy = c .before .before .before .before .before .before .before .copy in
+    let start = c .before .before .before .before .before .before .before .before .before .before .before in
+    (omega (arith, copy .ensures .0), named (start .args .name .now) (start .args .space .now) _ _ _ (copy .result) (copy .result + 7 - copy .result) (copy .ensures .0) (copy .ensures .1) (c .before .before .copy2 .ensures .1)))
     )

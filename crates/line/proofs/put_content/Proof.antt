@@ -3,6 +3,7 @@ use native.Mathlib.Omega.{arith}
 use borrow.Author.Needs.{needs}
 use Rattle.line.proofs.Lines.{content-end}
 use Rattle.text.proofs.Overlays.{then, wrote-as}
+use Rattle.text.proofs.Widths.{shown-short}
 use Rattle.line.proofs.put_content.Statement.{statement}
 use Rattle.line.proofs.put_content.Tie as tie
 
@@ -15,14 +16,12 @@ put-content-spec =
     (λ c. search needs)  -- put-byte-requires
     (λ c. search needs)  -- put-byte-requires-2
     (λ c κs. search needs)  -- put-value-requires
-    (λ c. search needs)  -- put-byte-requires-3
+    (λ c κs. omega (arith, shown-short))  -- put-byte-requires-3
     (λ c. search needs)  -- same-length
     (λ c.
-    let letter = c .before .before .before .before .before .before .before .before .before .before .before .before .before .before .put-byte .ensures in
-    let tab = c .before .before .before .before .before .before .before .before .before .before .put-byte2 .ensures in
-    let value = c .before .before .before .before .before .before .put-value .ensures in
-    let end = c .before .before .put-byte3 .ensures in (
-      wrote-as (content-end _ (c .before .before .before .before .before .before .before .before .before .before .before .before .before .before .before .letter-of .ensures) (c .before .before .before .before .before .before .before .before .before .before .before .before .before .before .before .before .wide .ensures)) (then letter (then tab (then (value .0) end))),
-      omega (arith, letter .ends, tab .ends, value .1, end .ends),
-    ))  -- returns
+    let value = c .before .before .before .before .before .before in
+    let tab = value .before .before .before .before in
+    let letter = tab .before .before .before .before in
+    let ends = content-end _ (letter .before .letter-of .ensures) (letter .before .before .wide .ensures) in
+    wrote-as ends (then (letter .put-byte .ensures) (then (tab .put-byte2 .ensures) (then (value .put-value .ensures) (c .before .before .put-byte3 .ensures)))))  -- returns
     )

@@ -2,6 +2,7 @@
 use native.Mathlib.Omega.{arith}
 use borrow.Author.Needs.{needs}
 use Rattle.text.proofs.Overlays.{then}
+use Rattle.text.proofs.Widths.{decimal-short}
 use Rattle.line.proofs.put_field.Statement.{statement}
 use Rattle.line.proofs.put_field.Tie as tie
 
@@ -10,10 +11,7 @@ put-field-spec =
     tie.close
     (tie.spec
     (λ c. search needs)  -- put-decimal-requires
-    (λ c. search needs)  -- put-byte-requires
+    (λ c κs. omega (arith, decimal-short))  -- put-byte-requires
     (λ c. search needs)  -- same-length
-    (λ c.
-    let number = c .before .before .before .before .before .before .put-decimal .ensures in
-    let tab = c .before .before .put-byte .ensures in
-    (then (number .0) tab, omega (arith, number .1, tab .ends)))  -- returns
+    (λ c. then (c .before .before .before .before .before .before .put-decimal .ensures) (c .before .before .put-byte .ensures))  -- returns
     )

@@ -2,7 +2,9 @@
 use native.Mathlib.Omega.{arith}
 use borrow.Author.Needs.{needs}
 use Rattle.line.proofs.Lines.{head-line}
-use Rattle.text.proofs.Overlays.{then, wrote-as}
+use Rattle.line.proofs.Widths.{field-short}
+use Rattle.text.proofs.Overlays.{then, wrote-as, ends-by}
+use Rattle.text.proofs.Widths.{decimal-short}
 use Rattle.line.proofs.put_head.Statement.{statement}
 use Rattle.line.proofs.put_head.Tie as tie
 
@@ -13,15 +15,14 @@ put-head-spec =
     (λ c. search needs)  -- slice-aggregate-put-bytes
     (λ c. search needs)  -- put-bytes-requires
     (λ c. search needs)  -- put-field-requires
-    (λ c. search needs)  -- put-decimal-requires
-    (λ c. search needs)  -- put-byte-requires
+    (λ c κs. omega (arith, field-short))  -- put-decimal-requires
+    (λ c κs.
+    let fits = c .before .before .before .before .before .before .before .before .before .before .before .before .before .before .before .fits in
+    omega (arith, field-short _ (fits .subject), ends-by (c .before .before .before .put-decimal .ensures) (decimal-short _ (record { fits = omega (arith, fits) }))))  -- put-byte-requires
     (λ c. search needs)  -- same-length
     (λ c.
-    let word = c .before .before .before .before .before .before .before .before .before .before .before .before .before .before .put-bytes .ensures in
-    let subject = c .before .before .before .before .before .before .before .before .before .before .put-field .ensures in
-    let lines = c .before .before .before .before .before .before .put-decimal .ensures in
-    let end = c .before .before .put-byte .ensures in (
-      wrote-as (head-line _ _) (then word (then (subject .0) (then (lines .0) end))),
-      omega (arith, word .ends, subject .1, lines .1, end .ends),
-    ))  -- returns
+    let lines = c .before .before .before .before .before .before in
+    let subject = lines .before .before .before .before in
+    let word = subject .before .before .before .before .put-bytes .ensures in
+    wrote-as (head-line _ _) (then word (then (subject .put-field .ensures) (then (lines .put-decimal .ensures) (c .before .before .put-byte .ensures)))))  -- returns
     )

@@ -2,6 +2,7 @@
 use native.Mathlib.Omega.{arith}
 use borrow.Author.Needs.{needs}
 use Rattle.line.proofs.Lines.{live-line}
+use Rattle.line.proofs.Widths.{start-short}
 use Rattle.text.proofs.Overlays.{then, wrote-as}
 use Rattle.line.proofs.put_live.Statement.{statement}
 use Rattle.line.proofs.put_live.Tie as tie
@@ -12,12 +13,13 @@ put-live-spec =
     (tie.spec
     (λ c. search needs)  -- put-start-requires
     (λ c. search needs)  -- slice-aggregate-put-bytes
-    (λ c. search needs)  -- put-bytes-requires
-    (λ c κs. search needs)  -- put-content-requires
+    (λ c κs. let fits = c .before .before .before .before .before .before .before .before .fits in omega (arith, start-short (fits .depth) (fits .name) (fits .label)))  -- put-bytes-requires
+    (λ c κs.
+    let start = c .before .before .before .before .before .before .before .before .before .before .before .before in
+    (omega (arith, start-short (start .fits .depth) (start .fits .name) (start .fits .label)), start .pre .1))  -- put-content-requires
     (λ c. search needs)  -- same-length
     (λ c.
-    let start = c .before .before .before .before .before .before .before .before .before .before .before .put-start .ensures in
-    let mark = c .before .before .before .before .before .before .put-bytes .ensures in
-    let content = c .before .before .put-content .ensures in
-    (wrote-as (live-line _ _ _ _) (then (start .0) (then mark (content .0))), omega (arith, start .1, mark .ends, content .1)))  -- returns
+    let mark = c .before .before .before .before .before .before in
+    let start = mark .before .before .before .before .before in
+    wrote-as (live-line _ _ _ _) (then (start .put-start .ensures) (then (mark .put-bytes .ensures) (c .before .before .put-content .ensures))))  -- returns
     )

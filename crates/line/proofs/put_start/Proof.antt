@@ -2,6 +2,7 @@
 use native.Mathlib.Omega.{arith}
 use borrow.Author.Needs.{needs}
 use Rattle.text.proofs.Overlays.{then}
+use Rattle.line.proofs.Widths.{field-short}
 use Rattle.line.proofs.put_start.Statement.{statement}
 use Rattle.line.proofs.put_start.Tie as tie
 
@@ -10,12 +11,11 @@ put-start-spec =
     tie.close
     (tie.spec
     (λ c. search needs)  -- put-field-requires
-    (λ c. search needs)  -- put-field-requires-2
-    (λ c. search needs)  -- put-field-requires-3
+    (λ c κs. omega (arith, field-short))  -- put-field-requires-2
+    (λ c κs. omega (arith, field-short))  -- put-field-requires-3
     (λ c. search needs)  -- same-length
     (λ c.
-    let first = c .before .before .before .before .before .before .before .before .before .before .put-field .ensures in
-    let second = c .before .before .before .before .before .before .put-field2 .ensures in
-    let third = c .before .before .put-field3 .ensures in
-    (then (first .0) (then (second .0) (third .0)), omega (arith, first .1, second .1, third .1)))  -- returns
+    let second = c .before .before .before .before .before .before in
+    let first = second .before .before .before .before in
+    then (first .put-field .ensures) (then (second .put-field2 .ensures) (c .before .before .put-field3 .ensures)))  -- returns
     )

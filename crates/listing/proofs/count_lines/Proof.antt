@@ -4,7 +4,7 @@ use native.Mathlib.Omega.{arith}
 use Prim.Native.Nat.{_-_}
 use lib.ListN.{length}
 use Rattle.model.specs.Path.{stepsOf}
-use Rattle.listing.proofs.Walking.{here-refers, here-new, Counting, count-start, count-next, count-end}
+use Rattle.listing.proofs.Walking.{here-refers, here-new, Counting, count-start, count-next, count-few, count-end}
 use Rattle.listing.proofs.count_lines.Statement.{statement}
 use Rattle.listing.proofs.count_lines.Tie as tie
 
@@ -31,20 +31,26 @@ count-lines-spec =
     (λ c κs. c .slot-of .ensures .1 .size)  -- depth-requires
     -- sub-lines
     (λ c.
-    let start = c .before .before .before .before .before .before .before .before .before in
-    omega (arith, here-new (stepsOf (start .args .path .now)) (start .pre .1) _ (c .before .before .before .before .loop-test .taken) (c .before .slot-of .ensures) (c .before .before .before .shared-above .ensures), c .depth .ensures .0))
+    let shared = c .before .before .before in
+    let start = shared .before .before .before .before .before .before in
+    omega (arith, here-new (stepsOf (start .args .path .now)) (start .pre .1) _ (shared .before .loop-test .taken) (c .before .slot-of .ensures) (shared .shared-above .ensures), c .depth .ensures .0))
     -- add-lines
     (λ c.
-    let start = c .before .before .before .before .before .before .before .before .before in
-    search (needs, c .before .before .before .before .before .loop .inv .few, c .depth .ensures .1, c .before .before .before .before .loop-test .taken, start .pre .0 .1))
+    let turn = c .before .before .before .before .before in
+    let start = turn .before .before .before .before in
+    search (needs, count-few (stepsOf (start .args .path .now)) (start .pre .1) (turn .loop .inv), c .depth .ensures .1, start .pre .0 .1))
     (λ c. search needs)  -- add-i
     (λ c. search needs)  -- loop-less
     -- loop-again
     (λ c.
-    let start = c .before .before .before .before .before .before .before .before .before in
-    count-next (stepsOf (start .args .path .now)) (start .pre .1) (c .before .before .before .before .before .loop .inv) (c .before .before .before .before .loop-test .taken) (c .before .slot-of .ensures) (c .before .before .before .shared-above .ensures) (c .depth .ensures))
+    let shared = c .before .before .before in
+    let turn = shared .before .before in
+    let start = turn .before .before .before .before in
+    count-next (stepsOf (start .args .path .now)) (start .pre .1) (turn .loop .inv) (shared .before .loop-test .taken) (c .before .slot-of .ensures) (shared .shared-above .ensures) (c .depth .ensures))
     -- returns
     (λ c.
     let start = c .before .before .before .before .before in
-    (count-end (stepsOf (start .args .path .now)) (start .pre .1) (c .before .loop .inv) (c .loop-test .left), omega (arith, c .before .loop .inv .few, c .before .loop .inv .within, start .pre .0 .1)))
+    let steps = stepsOf (start .args .path .now) in
+    let inv = c .before .loop .inv in
+    (count-end steps (start .pre .1) inv (c .loop-test .left), omega (arith, count-few steps (start .pre .1) inv, start .pre .0 .1)))
     )

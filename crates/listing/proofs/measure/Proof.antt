@@ -10,5 +10,5 @@ measure-spec =
     (tie.spec
     (λ c. search needs)  -- slice-aggregate-put-all
     (λ c. search needs)  -- put-all-requires
-    (λ c. whole-length (c .before .put-all .ensures .0))  -- returns
+    (λ c. whole-length (c .before .put-all .ensures))  -- returns
     )

@@ -4,7 +4,7 @@ use native.Mathlib.Omega.{arith}
 use Prim.Native.Nat.{_-_}
 use lib.ListN.{length}
 use Rattle.model.specs.Path.{stepsOf}
-use Rattle.listing.proofs.Walking.{here-refers, here-used, here-new, Walking, walk-start, walk-next, walk-end, walk-size}
+use Rattle.listing.proofs.Walking.{here-refers, here-used, here-new, Walking, walk-start, walk-next, walk-end, walk-room, walk-size}
 use Rattle.listing.proofs.put_walk.Statement.{statement}
 use Rattle.listing.proofs.put_walk.Tie as tie
 
@@ -30,19 +30,25 @@ put-walk-spec =
     (start .pre .0 .0, here-refers (stepsOf (start .args .path .now)) (start .pre .1) _ (c .before .before .loop-test .taken)))
     -- put-element-requires
     (λ c κs.
-    let start = c .before .before .before .before .before .before .before .before .before .before in
+    let shared = c .before .before .before in
+    let turn = shared .before .before in
+    let start = turn .before .before .before .before .before in
     let steps = stepsOf (start .args .path .now) in
-    let test = c .before .before .before .before .loop-test .taken in
+    let test = shared .before .loop-test .taken in
     let slot = c .before .slot-of .ensures in
-    ((omega (arith, c .before .before .before .before .before .loop .inv .room, test, start .pre .0 .1, start .pre .0 .2), here-new steps (start .pre .1) _ test slot (c .before .before .before .shared-above .ensures)), here-used steps (start .pre .1) _ test slot (start .pre .0 .0)))
+    let room = walk-room steps (start .pre .1) (turn .loop .inv) in
+    ((omega (arith, room, start .pre .0 .1, start .pre .0 .2), here-new steps (start .pre .1) _ test slot (shared .shared-above .ensures)), here-used steps (start .pre .1) _ test slot (start .pre .0 .0)))
     (λ c. search needs)  -- add-i
     (λ c. search needs)  -- loop-less
     -- loop-again
     (λ c.
-    let start = c .before .before .before .before .before .before .before .before .before .before .before .before .before in
-    let put = c .before .before .put-element .ensures in
-    walk-next (stepsOf (start .args .path .now)) (start .pre .1) (c .before .before .before .before .before .before .before .before .loop .inv) (c .before .before .before .before .before .before .before .loop-test .taken) (c .before .before .before .before .slot-of .ensures) (c .before .before .before .before .before .before .shared-above .ensures) (put .0) (put .1))
-    (λ c. walk-size (stepsOf (c .before .before .before .before .before .before .args .path .now)) (c .before .before .before .before .before .before .pre .1) (c .before .loop .inv))  -- same-length
+    let put = c .before .before in
+    let shared = put .before .before .before .before in
+    let turn = shared .before .before in
+    let start = turn .before .before .before .before .before in
+    let steps = stepsOf (start .args .path .now) in
+    walk-next steps (start .pre .1) (turn .loop .inv) (shared .before .loop-test .taken) (put .before .before .slot-of .ensures) (shared .shared-above .ensures) (put .put-element .ensures))
+    (λ c. let start = c .before .before .before .before .before .before in walk-size (stepsOf (start .args .path .now)) (start .pre .1) (c .before .loop .inv))  -- same-length
     -- returns
     (λ c.
     let start = c .before .before .before .before .before .before in

@@ -1,12 +1,15 @@
 -- `octets::move_down` meets its contract. Assumes nothing.
-use Prim.Native.Nat.{_-_}
+use mathlib.Core.Path.{_≡_}
+use Prim.Native.Nat.{_+_, _-_, _≤_}
+use native.Mathlib.Omega.{arith}
+use lib.ListN.{length}
 use borrow.Author.Needs.{needs}
-use Rattle.octets.proofs.Shifts.{Lowered, lower-start, lower-next, lower-end}
+use Rattle.octets.proofs.Shifts.{Mixed, lowered, lower-start, lower-next, lower-end}
 use Rattle.octets.proofs.move_down.Statement.{statement}
 use Rattle.octets.proofs.move_down.Tie as tie
 
 abbrev Inv-loop : tie.InvT-loop
-Inv-loop s₀ k n i₀ s i = Lowered s₀ s k n i
+Inv-loop s₀ k n i₀ s i = Mixed (lowered s₀ k) s₀ s i × (n + k ≡ length s₀) × (i ≤ n)
 
 abbrev μ-loop : tie.MeasureT-loop
 μ-loop s₀ k n i₀ s i = n - i
@@ -18,12 +21,12 @@ move-down-spec =
     Inv-loop
     μ-loop
     (λ c. search needs)  -- sub-n
-    (λ c. lower-start _ _ (c .pre))  -- loop-holds
+    (λ c. (lower-start _ _ (c .pre), omega arith, omega arith))  -- loop-holds
     (λ c. search needs)  -- add-s
     (λ c. search needs)  -- slice-read-s
     (λ c. search needs)  -- slice-write-s
     (λ c. search needs)  -- add-i
     (λ c. search needs)  -- loop-less
-    (λ c. lower-next (c .before .before .loop .inv) (c .before .loop-test .taken))  -- loop-again
+    (λ c. let l = c .before .before .loop .inv in (lower-next _ _ (c .before .before .before .pre) (l .0) (omega arith), l .1, omega arith))  -- loop-again
     (λ c. search needs)  -- same-length
-    (λ c. lower-end (c .before .loop .inv) (c .loop-test .left)))  -- returns
+    (λ c. lower-end _ _ (c .before .before .pre) (c .before .loop .inv .0) (omega arith)))  -- returns

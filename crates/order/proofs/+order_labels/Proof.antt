@@ -43,7 +43,10 @@ pub +order-labels-spec : {M : Type 1} → statement M
     let start = c .before .before .before .before .before .before in
     (no-label _ _ _ (start .args .labels .now) (c .if1 .taken) [], omega arith))
     (λ c. search needs)  -- shared-slice-read-collect
-    (λ c κs. (c .before .before .before .before .before .before .before .before .before .pre .1 .0 .0, omega (arith, c .before .before .if2 .taken, c .before .before .before .before .before .before .before .before .before .pre .1 .1 .0)))  -- collect-requires
+    -- collect-requires
+    (λ c κs.
+    let start = c .before .before .before .before .before .before .before .before .before in
+    (start .pre .1 .0 .0, omega (arith, c .before .before .if2 .taken, start .pre .1 .1 .0)))
     (λ c. search needs)  -- same-length
     -- returns-2
     (λ c.
@@ -58,8 +61,13 @@ pub +order-labels-spec : {M : Type 1} → statement M
     let start = c .before .before .before .before .before .before .before .before .before .before in
     let labels = start .args .labels .now in
     let half = length labels / 2 in
-    let less = first-less labels (at-least-two _ (c .before .before .before .before .if1 .left) (c .before .before .before .if2 .left)) in
-    (subst (λ (n : ℕ). length (take (half - 0) labels) < n) (start .pre .0) less, ((start .pre .1 .0 .0, rising-take (half - 0) labels (start .pre .1 .0 .1), omega (arith, less, start .pre .1 .0 .2)), (omega (arith, less, start .pre .1 .1 .1), omega (arith, less, start .pre .1 .1 .0)))))
+    let less = first-less labels (at-least-two _ (c .before .before .before .before .if1 .left) (c .before .before .before .if2 .left)) in (
+      subst (λ (n : ℕ). length (take (half - 0) labels) < n) (start .pre .0) less,
+      (
+        (start .pre .1 .0 .0, rising-take (half - 0) labels (start .pre .1 .0 .1), omega (arith, less, start .pre .1 .0 .2)),
+        (omega (arith, less, start .pre .1 .1 .1), omega (arith, less, start .pre .1 .1 .0)),
+      ),
+    ))
     (λ c. search needs)  -- sub-order-labels-2
     (λ c. search needs)  -- part-order-labels-start-2
     (λ c. search needs)  -- part-order-labels-end-2
@@ -73,14 +81,22 @@ pub +order-labels-spec : {M : Type 1} → statement M
     (λ c. search needs)  -- part-order-labels-end-4
     -- order-labels-requires-2
     (λ c κs.
+    let spare = c .before .before .before .before .before .before .spare in
+    let if2 = c .before .before .before .before .before .before .before .before .before .before .before .if2 in
+    let if1 = c .before .before .before .before .before .before .before .before .before .before .before .before .if1 in
     let start = c .before .before .before .before .before .before .before .before .before .before .before .before .before .before .before .before .before .before in
     let labels = start .args .labels .now in
     let half = length labels / 2 in
-    let less = second-less labels (at-least-two _ (c .before .before .before .before .before .before .before .before .before .before .before .before .if1 .left) (c .before .before .before .before .before .before .before .before .before .before .before .if2 .left)) in
+    let less = second-less labels (at-least-two _ (if1 .left) (if2 .left)) in
     let one = c .before .before .before .before .before .before .before .order-labels in
-    let room = room-left labels (one .ensures .1) (start .pre .1 .1 .1) (c .before .before .before .before .before .before .spare .given) in
-    let other = room-left labels (one .ensures .1) (start .pre .1 .1 .0) (c .before .before .before .before .refs2 .given) in
-    (subst (λ (n : ℕ). length (take (length labels - half) (drop half labels)) < n) (start .pre .0) less, ((start .pre .1 .0 .0, rising-take (length labels - half) (drop half labels) (rising-drop half labels (start .pre .1 .0 .1)), fewer less (start .pre .1 .0 .2)), (second-room labels (one .last .1 .1 .1 .1 .0) (one .result) room, second-room labels (one .last .1 .1 .1 .1 .1 .0) (one .result) other))))
+    let room = room-left labels (one .ensures .1) (start .pre .1 .1 .1) (spare .given) in
+    let other = room-left labels (one .ensures .1) (start .pre .1 .1 .0) (c .before .before .before .before .refs2 .given) in (
+      subst (λ (n : ℕ). length (take (length labels - half) (drop half labels)) < n) (start .pre .0) less,
+      (
+        (start .pre .1 .0 .0, rising-take (length labels - half) (drop half labels) (rising-drop half labels (start .pre .1 .0 .1)), fewer less (start .pre .1 .0 .2)),
+        (second-room labels (one .last .1 .1 .1 .1 .0) (one .result) room, second-room labels (one .last .1 .1 .1 .1 .1 .0) (one .result) other),
+      ),
+    ))
     (λ c. search needs)  -- add-n
     (λ c. search needs)  -- sub-merge
     (λ c. search needs)  -- part-merge-start
@@ -102,26 +118,43 @@ pub +order-labels-spec : {M : Type 1} → statement M
     both-fit labels (one .result) (two .result) (two .ensures .1) room refl (c .before .before .before .before .before .spare2 .given .1))
     -- merge-requires
     (λ c κs.
+    let spare2 = c .before .before .before .before .before .before .before .spare2 in
+    let refs2 = c .before .before .before .before .before .before .before .before .before .before .before .before .before .refs2 in
+    let spare = c .before .before .before .before .before .before .before .before .before .before .before .before .before .before .before .spare in
     let start = c .before .before .before .before .before .before .before .before .before .before .before .before .before .before .before .before .before .before .before .before .before .before .before .before .before .before .before in
     let labels = start .args .labels .now in
     let half = length labels / 2 in
     let one = c .before .before .before .before .before .before .before .before .before .before .before .before .before .before .before .before .order-labels in
     let two = c .before .before .before .before .before .before .before .before .order-labels2 in
     let high = one .last .1 .1 .1 .1 .0 in
-    let room = room-left labels (one .ensures .1) (start .pre .1 .1 .1) (c .before .before .before .before .before .before .before .before .before .before .before .before .before .before .before .spare .given) in
-    let fits = second-fits labels high (one .result) (two .ensures .1) room (c .before .before .before .before .before .before .before .spare2 .given .0) in
-    let total = room-left labels (one .ensures .1) (start .pre .1 .1 .0) (c .before .before .before .before .before .before .before .before .before .before .before .before .before .refs2 .given) in
-    ((start .pre .1 .0 .0, two-runs (stepsOf (start .args .path .now)) labels half (half-below labels) (start .pre .1 .0 .1) high (two .last .1 .1 .1 .1 .0) (one .result) (two .result) (one .ensures .0) (two .ensures .0) (starts-within (one .result) _ room) fits (length high - one .result)), both-fit labels (one .result) (two .result) (two .ensures .1) total (runs-length (stepsOf (start .args .path .now)) labels half (half-below labels) (start .pre .1 .0 .1) high (two .last .1 .1 .1 .1 .0) (one .result) (two .result) (one .ensures .0) (two .ensures .0) (starts-within (one .result) _ room) fits (length high - one .result)) (c .before .before .before .before .before .refs3 .given .1)))
+    let room = room-left labels (one .ensures .1) (start .pre .1 .1 .1) (spare .given) in
+    let fits = second-fits labels high (one .result) (two .ensures .1) room (spare2 .given .0) in
+    let total = room-left labels (one .ensures .1) (start .pre .1 .1 .0) (refs2 .given) in (
+      (
+        start .pre .1 .0 .0,
+        two-runs (stepsOf (start .args .path .now)) labels half (half-below labels) (start .pre .1 .0 .1) high (two .last .1 .1 .1 .1 .0) (one .result) (two .result)
+            (one .ensures .0) (two .ensures .0) (starts-within (one .result) _ room) fits (length high - one .result),
+      ),
+      both-fit labels (one .result) (two .result) (two .ensures .1) total
+          (runs-length (stepsOf (start .args .path .now)) labels half (half-below labels) (start .pre .1 .0 .1) high (two .last .1 .1 .1 .1 .0) (one .result) (two .result) (one .ensures .0)
+          (two .ensures .0) (starts-within (one .result) _ room) fits (length high - one .result)) (c .before .before .before .before .before .refs3 .given .1),
+    ))
     (λ c. search needs)  -- same-length-2
     (λ c. search needs)  -- same-length-3
     -- returns-3
     (λ c.
+    let spare2 = c .before .before .before .before .before .before .before .before .before .before .spare2 in
+    let spare = c .before .before .before .before .before .before .before .before .before .before .before .before .before .before .before .before .before .before .spare in
     let start = c .before .before .before .before .before .before .before .before .before .before .before .before .before .before .before .before .before .before .before .before .before .before .before .before .before .before .before .before .before .before in
     let labels = start .args .labels .now in
     let half = length labels / 2 in
     let one = c .before .before .before .before .before .before .before .before .before .before .before .before .before .before .before .before .before .before .before .order-labels in
     let two = c .before .before .before .before .before .before .before .before .before .before .before .order-labels2 in
     let high = one .last .1 .1 .1 .1 .0 in
-    let room = room-left labels (one .ensures .1) (start .pre .1 .1 .1) (c .before .before .before .before .before .before .before .before .before .before .before .before .before .before .before .before .before .before .spare .given) in
-    let fits = second-fits labels high (one .result) (two .ensures .1) room (c .before .before .before .before .before .before .before .before .before .before .spare2 .given .0) in
-    (runs-joined (stepsOf (start .args .path .now)) labels half (half-below labels) (start .pre .1 .0 .1) high (two .last .1 .1 .1 .1 .0) (one .result) (two .result) (one .ensures .0) (two .ensures .0) (starts-within (one .result) _ room) fits (length high - one .result) (c .before .before .merge .last .1 .1 .1 .1 .0) (c .before .before .merge .ensures), both-few labels (one .ensures .1) (two .ensures .1)))
+    let room = room-left labels (one .ensures .1) (start .pre .1 .1 .1) (spare .given) in
+    let fits = second-fits labels high (one .result) (two .ensures .1) room (spare2 .given .0) in (
+      runs-joined (stepsOf (start .args .path .now)) labels half (half-below labels) (start .pre .1 .0 .1) high (two .last .1 .1 .1 .1 .0) (one .result) (two .result) (one .ensures .0)
+          (two .ensures .0) (starts-within (one .result) _ room) fits (length high - one .result) (c .before .before .merge .last .1 .1 .1 .1 .0) (c .before .before .merge .ensures),
+      both-few labels
+          (one .ensures .1) (two .ensures .1),
+    ))

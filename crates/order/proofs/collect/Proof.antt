@@ -29,21 +29,33 @@ collect-spec =
     -- cast-count-from
     (λ c.
     let start = c .before .before .before .before .before .before .before .before in
-    omega (arith, few-collected (start .pre .0) (stepsOf (start .args .path .now)) _ (c .before .before .before .before .dominates .ensures) (c .before .before .before .if1 .left) (c .before .before .partition-of .ensures) (c .before .run-of .ensures .0) (c .before .run-of .ensures .1)))
+    omega (
+      arith,
+      few-collected (start .pre .0) (stepsOf (start .args .path .now)) _ (c .before .before .before .before .dominates .ensures) (c .before .before .before .if1 .left)
+          (c .before .before .partition-of .ensures) (c .before .run-of .ensures .0) (c .before .run-of .ensures .1),
+    ))
     -- add-count-from
     (λ c.
+    let if1 = c .before .before .before .if1 in
+    let dominates = c .before .before .before .before .dominates in
     let start = c .before .before .before .before .before .before .before .before in
-    let few = few-collected (start .pre .0) (stepsOf (start .args .path .now)) _ (c .before .before .before .before .dominates .ensures) (c .before .before .before .if1 .left) (c .before .before .partition-of .ensures) (c .before .run-of .ensures .0) (c .before .run-of .ensures .1) in
-    omega (arith, dominated-lt _ _ (dominated (start .pre .0) (stepsOf (start .args .path .now)) _ (c .before .before .before .before .dominates .ensures) (c .before .before .before .if1 .left)), few))
+    let few = few-collected (start .pre .0) (stepsOf (start .args .path .now)) _ (dominates .ensures) (if1 .left) (c .before .before .partition-of .ensures) (c .before .run-of .ensures .0) (c .before .run-of .ensures .1) in
+    omega (arith, dominated-lt _ _ (dominated (start .pre .0) (stepsOf (start .args .path .now)) _ (dominates .ensures) (if1 .left)), few))
     -- count-from-requires
     (λ c κs.
+    let if1 = c .before .before .before .if1 in
+    let dominates = c .before .before .before .before .dominates in
     let start = c .before .before .before .before .before .before .before .before in
-    let few = few-collected (start .pre .0) (stepsOf (start .args .path .now)) _ (c .before .before .before .before .dominates .ensures) (c .before .before .before .if1 .left) (c .before .before .partition-of .ensures) (c .before .run-of .ensures .0) (c .before .run-of .ensures .1) in
-    (omega (arith, start .pre .1, few), omega (arith, dominated-lt _ _ (dominated (start .pre .0) (stepsOf (start .args .path .now)) _ (c .before .before .before .before .dominates .ensures) (c .before .before .before .if1 .left)), few)))
+    let few = few-collected (start .pre .0) (stepsOf (start .args .path .now)) _ (dominates .ensures) (if1 .left) (c .before .before .partition-of .ensures) (c .before .run-of .ensures .0) (c .before .run-of .ensures .1) in
+    (omega (arith, start .pre .1, few), omega (arith, dominated-lt _ _ (dominated (start .pre .0) (stepsOf (start .args .path .now)) _ (dominates .ensures) (if1 .left)), few)))
     (λ c. search needs)  -- same-length
     -- returns-2
     (λ c.
+    let run-of = c .before .before .before .before .run-of in
+    let partition-of = c .before .before .before .before .before .partition-of in
+    let if1 = c .before .before .before .before .before .before .if1 in
+    let dominates = c .before .before .before .before .before .before .before .dominates in
     let start = c .before .before .before .before .before .before .before .before .before .before .before in
-    let few = few-collected (start .pre .0) (stepsOf (start .args .path .now)) _ (c .before .before .before .before .before .before .before .dominates .ensures) (c .before .before .before .before .before .before .if1 .left) (c .before .before .before .before .before .partition-of .ensures) (c .before .before .before .before .run-of .ensures .0) (c .before .before .before .before .run-of .ensures .1) in
-    (collected (start .pre .0) (stepsOf (start .args .path .now)) _ (c .before .before .before .before .before .before .before .dominates .ensures) (c .before .before .before .before .before .before .if1 .left) (c .before .before .before .before .before .partition-of .ensures) (c .before .before .before .before .run-of .ensures .0) (c .before .before .before .before .run-of .ensures .1) refl _ (c .before .before .count-from .ensures), omega (arith, few)))
+    let few = few-collected (start .pre .0) (stepsOf (start .args .path .now)) _ (dominates .ensures) (if1 .left) (partition-of .ensures) (run-of .ensures .0) (run-of .ensures .1) in
+    (collected (start .pre .0) (stepsOf (start .args .path .now)) _ (dominates .ensures) (if1 .left) (partition-of .ensures) (run-of .ensures .0) (run-of .ensures .1) refl _ (c .before .before .count-from .ensures), omega (arith, few)))
     )

@@ -19,14 +19,19 @@ order-spec =
     (λ c κs.
     let start = c .before .before .before .before .before .before .before .before .before .before .before in
     let found = c .before .before .before .before .before .occupied in
-    let few = found-few _ (start .args .store .now) (stepsOf (start .args .path .now)) (found .last .1 .1 .1 .0) (found .ensures .0) (found .ensures .1) in
-    ((start .pre .0, found-rising _ (start .args .store .now) (stepsOf (start .args .path .now)) (found .last .1 .1 .1 .0) (found .ensures .0) (found .ensures .1), few), (omega (arith, few, start .pre .1), omega (arith, few, start .pre .2))))
+    let few = found-few _ (start .args .store .now) (stepsOf (start .args .path .now)) (found .last .1 .1 .1 .0) (found .ensures .0) (found .ensures .1) in (
+      (start .pre .0, found-rising _ (start .args .store .now) (stepsOf (start .args .path .now)) (found .last .1 .1 .1 .0) (found .ensures .0) (found .ensures .1), few),
+      (omega (arith, few, start .pre .1), omega (arith, few, start .pre .2)),
+    ))
     (λ c. search needs)  -- same-length
     (λ c. search needs)  -- same-length-2
     -- returns
     (λ c.
     let start = c .before .before .before .before .before .before .before .before .before .before .before .before .before .before .before .before in
     let found = c .before .before .before .before .before .before .before .before .before .before .occupied in
-    let refs = c .before .before .before .before .order-labels .ensures in
-    (found-all _ (start .args .store .now) (stepsOf (start .args .path .now)) (found .last .1 .1 .1 .0) (found .ensures .0) (found .ensures .1) (refs .0), omega (arith, refs .1, found-few _ (start .args .store .now) (stepsOf (start .args .path .now)) (found .last .1 .1 .1 .0) (found .ensures .0) (found .ensures .1))))
+    let refs = c .before .before .before .before .order-labels .ensures in (
+      found-all _ (start .args .store .now) (stepsOf (start .args .path .now)) (found .last .1 .1 .1 .0) (found .ensures .0) (found .ensures .1) (refs .0),
+      omega
+          (arith, refs .1, found-few _ (start .args .store .now) (stepsOf (start .args .path .now)) (found .last .1 .1 .1 .0) (found .ensures .0) (found .ensures .1)),
+    ))
     )

@@ -25,6 +25,7 @@ takes-first-spec =
     (λ c κs. (c .before .before .slot-of .ensures .1, c .slot-of2 .ensures .1))  -- compare-requires
     -- returns-3
     (λ c.
+    let if1 = c .before .before .before .before .before .before .if1 in
     let start = c .before .before .before .before .before .before .before .before .before .before in
-    by-order (start .pre .0 .1) (c .before .before .before .before .before .before .if1 .left) (c .before .before .before .before .before .if2 .left) (c .before .before .before .slot-of .ensures) (c .before .slot-of2 .ensures) (c .compare .ensures))
+    by-order (start .pre .0 .1) (if1 .left) (c .before .before .before .before .before .if2 .left) (c .before .before .before .slot-of .ensures) (c .before .slot-of2 .ensures) (c .compare .ensures))
     )

@@ -21,18 +21,25 @@ find-spec =
     μ-loop
     (λ c κs. facts (c .before .before .pre) .size)  -- count-requires
     (λ c. find-start (c .before .before .before .pre) _ (c .count .ensures))  -- loop-holds
-    (λ c κs. (facts (c .before .before .before .before .before .pre) .size, omega (arith, facts (c .before .before .before .before .before .pre) .few)))  -- slot-at-requires
+    (λ c κs. let formed = facts (c .before .before .before .before .before .pre) in (formed .size, omega (arith, formed .few)))  -- slot-at-requires
     -- compare-path-requires
     (λ c κs.
     let start = c .before .before .before .before .before .before in
     formed-readable (start .pre) (c .before .before .before .count .ensures) (c .before .loop-test .taken) (c .slot-at .ensures))
     -- is-same-requires
     (λ c κs.
-    let start = c .before .before .before .before .before .before .before .before .before in
-    (formed-readable (start .pre) (c .before .before .before .before .before .before .count .ensures) (c .before .before .before .before .loop-test .taken) (c .before .before .before .slot-at .ensures), c .before .before .compare-path .ensures .shared-is))
-    (λ c. find-here (c .before .before .before .before .before .before .loop .inv) (c .before .before .before .before .before .loop-test .taken) (c .before .before .before .before .slot-at .ensures) (c .before .before .before .compare-path .ensures) (c .before .if1 .taken) (c .is-same .ensures))  -- returns
+    let read = c .before .before .before in
+    let start = read .before .before .before .before .before .before in
+    (formed-readable (start .pre) (read .before .before .before .count .ensures) (read .before .loop-test .taken) (read .slot-at .ensures), c .before .before .compare-path .ensures .shared-is))
+    -- returns
+    (λ c.
+    let read = c .before .before .before .before in
+    find-here (read .before .before .loop .inv) (read .before .loop-test .taken) (read .slot-at .ensures) (c .before .before .before .compare-path .ensures) (c .before .if1 .taken) (c .is-same .ensures))
     (λ c. search needs)  -- add-i
     (λ c. search needs)  -- loop-less
-    (λ c. find-next (c .before .before .before .before .before .loop .inv) (c .before .before .before .before .loop-test .taken) (c .before .before .before .slot-at .ensures) (c .before .before .compare-path .ensures) (c .if1 .left))  -- loop-again
+    -- loop-again
+    (λ c.
+    let read = c .before .before .before in
+    find-next (read .before .before .loop .inv) (read .before .loop-test .taken) (read .slot-at .ensures) (c .before .before .compare-path .ensures) (c .if1 .left))
     (λ c. find-end (c .before .loop .inv) (c .loop-test .left))  -- returns-2
     )

@@ -10,17 +10,34 @@ has-below-spec =
     tie.close
     (tie.spec
     (λ c κs. facts (c .before .before .pre) .size)  -- count-requires
-    (λ c. none-held (c .before .before .before .before .args .path .now) (c .before .before .before .before .args .part .now) (c .before .count .ensures) (c .if1 .taken))  -- returns
-    (λ c. root-held (c .before .before .before .before .before .args .path .now) (c .before .before .before .before .before .args .part .now) (c .before .before .count .ensures) (c .if2 .taken) (c .before .if1 .left))  -- returns-2
+    -- returns
+    (λ c.
+    let start = c .before .before .before .before in
+    none-held (start .args .path .now) (start .args .part .now) (c .before .count .ensures) (c .if1 .taken))
+    -- returns-2
+    (λ c.
+    let start = c .before .before .before .before .before in
+    root-held (start .args .path .now) (start .args .part .now) (c .before .before .count .ensures) (c .if2 .taken) (c .before .if1 .left))
     (λ c. search needs)  -- find-requires
     -- returns-3
     (λ c.
-    let start = c .before .before .before .before .before .before .before in
-    below-end (start .args .path .now) (run-start (start .pre) _ (c .before .before .before .before .count .ensures) (c .before .find .ensures .at-is)) (c .if3 .taken))
-    (λ c κs. (facts (c .before .before .before .before .before .before .before .pre) .size, omega (arith, c .if3 .left, c .before .before .before .before .count .ensures .0, facts (c .before .before .before .before .before .before .before .pre) .few)))  -- slot-at-requires
-    (λ c κs. formed-readable (c .before .before .before .before .before .before .before .before .pre) (c .before .before .before .before .before .count .ensures) (c .before .if3 .left) (c .slot-at .ensures))  -- compare-path-requires
+    let counted = c .before .before .before .before in
+    let start = counted .before .before .before in
+    below-end (start .args .path .now) (run-start (start .pre) _ (counted .count .ensures) (c .before .find .ensures .at-is)) (c .if3 .taken))
+    -- slot-at-requires
+    (λ c κs.
+    let counted = c .before .before .before .before in
+    let formed = facts (counted .before .before .before .pre) in
+    (formed .size, omega (arith, c .if3 .left, counted .count .ensures .0, formed .few)))
+    -- compare-path-requires
+    (λ c κs.
+    let counted = c .before .before .before .before .before in
+    formed-readable (counted .before .before .before .pre) (counted .count .ensures) (c .before .if3 .left) (c .slot-at .ensures))
     -- returns-4
     (λ c.
-    let start = c .before .before .before .before .before .before .before .before .before .before in
-    below-here (start .args .path .now) (run-start (start .pre) _ (c .before .before .before .before .before .before .before .count .ensures) (c .before .before .before .before .find .ensures .at-is)) (c .before .before .before .if3 .left) (c .before .before .slot-at .ensures) (c .before .compare-path .ensures))
+    let found = c .before .before .before .before in
+    let counted = found .before .before .before in
+    let start = counted .before .before .before in
+    below-here (start .args .path .now) (run-start (start .pre) _ (counted .count .ensures) (found .find .ensures .at-is))
+    (c .before .before .before .if3 .left) (c .before .before .slot-at .ensures) (c .before .compare-path .ensures))
     )

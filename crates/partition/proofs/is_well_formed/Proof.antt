@@ -2,7 +2,7 @@
 use borrow.Author.Needs.{needs}
 use mathlib.Core.Path.{_∙_}
 use Rattle.octets.proofs.Tests.{slice-bytes}
-use Rattle.partition.proofs.Checking.{too-many, head-used, spare-used, framed, formed-by-slots}
+use Rattle.partition.proofs.Checking.{too-many, head-used, spare-used, formed-by-slots}
 use Rattle.partition.proofs.is_well_formed.Statement.{statement}
 use Rattle.partition.proofs.is_well_formed.Tie as tie
 
@@ -20,9 +20,13 @@ is-well-formed-spec =
     (λ c. search needs)  -- spare-zero-requires
     (λ c. spare-used _ _ (c .before .before .before .before .before .before .count .ensures) (c .before .spare-zero .ensures) (c .if3 .taken))  -- returns-3
     (λ c. search needs)  -- slots-good-requires
+    -- returns-4
     (λ c.
+    let head = c .before .before .before .before in
+    let counted = head .before .before .before in
+    let known = counted .before in
+    let start = known .before in
     c .slots-good .ensures
-    ∙ formed-by-slots _ _
-    (framed _ _ (c .before .before .before .before .before .before .before .before .before .pre .0) (slice-bytes (c .before .before .before .before .before .before .before .before .before .args .part .now) (c .before .before .before .before .before .before .before .before .shared-slice-known .given) .bytes) (c .before .before .before .before .before .before .before .before .before .pre .1) (c .before .before .before .before .before .before .before .count .ensures) (c .before .before .before .before .before .before .if1 .left)
-    (c .before .before .before .before .is-zero .ensures) (c .before .before .before .if2 .left) (c .before .before .spare-zero .ensures) (c .before .if3 .left)))  -- returns-4
+    ∙ formed-by-slots _ _ (start .pre .0) (slice-bytes (start .args .part .now) (known .shared-slice-known .given) .bytes) (start .pre .1) (counted .count .ensures) (head .before .before .if1 .left)
+    (head .is-zero .ensures) (c .before .before .before .if2 .left) (c .before .before .spare-zero .ensures) (c .before .if3 .left))
     )

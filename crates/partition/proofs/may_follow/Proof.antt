@@ -18,5 +18,8 @@ may-follow-spec =
     (λ c.
     let start = c .before .before .before .before .before .before .before .before .before in
     omega (arith, shared-small _ _ (c .before .before .before .before .before .before .compare .ensures) (start .pre .0 .steps)))
-    (λ c. shared-parent _ _ _ (c .before .before .before .before .before .before .compare .ensures) (c .before .before .before .before .if1 .left) (c .before .before .before .parent-ends-in .ensures) (c .before .before .if2 .left) (c .before .depth .ensures))  -- returns-3
+    -- returns-3
+    (λ c.
+    let after = c .before .before .before .before in
+    shared-parent _ _ _ (after .before .before .compare .ensures) (after .if1 .left) (c .before .before .before .parent-ends-in .ensures) (c .before .before .if2 .left) (c .before .depth .ensures))
     )

@@ -10,12 +10,12 @@ pub replace-spec : {M : Type 1} → statement M
 replace-spec =
     tie.close
     (tie.spec
-    (λ c. omega (arith, c .before .before .pre .1, facts (c .before .before .pre .0) .few))  -- mul-start
-    (λ c. omega (arith, c .before .before .pre .1, facts (c .before .before .pre .0) .few))  -- add-start
-    (λ c. omega (arith, c .before .before .pre .1, facts (c .before .before .pre .0) .few))  -- add-end
+    (λ c. omega (arith, c .before .before .pre .1, facts (c .before .before .pre .0)))  -- mul-start
+    (λ c. omega (arith, c .before .before .pre .1, facts (c .before .before .pre .0)))  -- add-start
+    (λ c. omega (arith, c .before .before .pre .1, facts (c .before .before .pre .0)))  -- add-end
     (λ c. search needs)  -- sub-replace-content
     (λ c. search needs)  -- part-replace-content-start
-    (λ c. omega (arith, c .before .before .pre .1, facts (c .before .before .pre .0) .few, facts (c .before .before .pre .0) .size))  -- part-replace-content-end
+    (λ c. omega (arith, c .before .before .pre .1, facts (c .before .before .pre .0)))  -- part-replace-content-end
     (λ c. search needs)  -- replace-content-requires
     (λ c. search needs)  -- same-length
     -- returns

@@ -21,7 +21,7 @@ run-length-spec =
     μ-loop
     (λ c κs. facts (c .before .before .pre .0) .size)  -- count-requires
     (λ c. run-start (c .before .before .before .pre .0) _ (c .count .ensures) (c .before .before .before .pre .1))  -- loop-holds
-    (λ c κs. (facts (c .before .before .before .before .before .pre .0) .size, omega (arith, facts (c .before .before .before .before .before .pre .0) .few)))  -- slot-at-requires
+    (λ c κs. let formed = facts (c .before .before .before .before .before .pre .0) in (formed .size, omega (arith, formed .few)))  -- slot-at-requires
     -- compare-path-requires
     (λ c κs.
     let start = c .before .before .before .before .before .before in
@@ -29,14 +29,16 @@ run-length-spec =
     (λ c. search needs)  -- sub-result
     -- returns
     (λ c.
-    let start = c .before .before .before .before .before .before .before .before .before in
-    run-stop (start .args .path .now) (c .before .before .before .before .before .loop .inv) (c .before .before .before .before .loop-test .taken) (c .before .before .before .slot-at .ensures) (c .before .before .compare-path .ensures) (c .if1 .taken))
+    let read = c .before .before .before in
+    let start = read .before .before .before .before .before .before in
+    run-stop (start .args .path .now) (read .before .before .loop .inv) (read .before .loop-test .taken) (read .slot-at .ensures) (c .before .before .compare-path .ensures) (c .if1 .taken))
     (λ c. search needs)  -- add-i
     (λ c. search needs)  -- loop-less
     -- loop-again
     (λ c.
-    let start = c .before .before .before .before .before .before .before .before .before in
-    run-next (start .args .path .now) (c .before .before .before .before .before .loop .inv) (c .before .before .before .before .loop-test .taken) (c .before .before .before .slot-at .ensures) (c .before .before .compare-path .ensures) (c .if1 .left))
+    let read = c .before .before .before in
+    let start = read .before .before .before .before .before .before in
+    run-next (start .args .path .now) (read .before .before .loop .inv) (read .before .loop-test .taken) (read .slot-at .ensures) (c .before .before .compare-path .ensures) (c .if1 .left))
     (λ c. search needs)  -- sub-result-2
     (λ c. run-end (c .before .before .before .before .before .args .path .now) (c .before .loop .inv) (c .loop-test .left))  -- returns-2
     )

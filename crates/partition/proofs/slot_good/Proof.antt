@@ -12,12 +12,18 @@ slot-good-spec =
     (λ c. search needs)  -- is-valid-requires
     (λ c. slot-bad _ (c .before .before .slot-at .ensures) (c .before .is-valid .ensures) _ (c .if1 .taken))  -- returns
     (λ c κs. slot-readable _ (c .before .before .before .slot-at .ensures) (c .before .before .is-valid .ensures) (c .before .if1 .left))  -- parent-ends-in-requires
-    (λ c. first-slot _ (c .before .before .before .before .slot-at .ensures) (c .before .before .before .is-valid .ensures) (c .before .before .if1 .left) _ (c .before .if2 .taken) (c .parent-ends-in .ensures))  -- returns-2
+    -- returns-2
+    (λ c.
+    let valid = c .before .before in
+    first-slot _ (valid .before .before .slot-at .ensures) (valid .before .is-valid .ensures) (valid .if1 .left) _ (c .before .if2 .taken) (c .parent-ends-in .ensures))
     (λ c. search needs)  -- sub-slot-at
     (λ c. search needs)  -- slot-at-requires-2
-    (λ c κs. (
-      before-readable _ (c .before .if2 .left) (c .slot-at2 .ensures) (c .before .before .before .before .before .before .pre .1),
-      slot-readable _ (c .before .before .before .before .slot-at .ensures) (c .before .before .before .is-valid .ensures) (c .before .before .if1 .left),
-    ))  -- may-follow-requires
-    (λ c. later-slot _ (c .before .before .before .before .before .slot-at .ensures) (c .before .before .before .before .is-valid .ensures) (c .before .before .before .if1 .left) _ (c .before .before .if2 .left) (c .before .slot-at2 .ensures) (c .may-follow .ensures))  -- returns-3
+    -- may-follow-requires
+    (λ c κs.
+    let valid = c .before .before in
+    (before-readable _ (c .before .if2 .left) (c .slot-at2 .ensures) (valid .before .before .before .before .pre .1), slot-readable _ (valid .before .before .slot-at .ensures) (valid .before .is-valid .ensures) (valid .if1 .left)))
+    -- returns-3
+    (λ c.
+    let valid = c .before .before .before in
+    later-slot _ (valid .before .before .slot-at .ensures) (valid .before .is-valid .ensures) (valid .if1 .left) _ (c .before .before .if2 .left) (c .before .slot-at2 .ensures) (c .may-follow .ensures))
     )

@@ -10,13 +10,13 @@ pub take-out-spec : {M : Type 1} → statement M
 take-out-spec =
     tie.close
     (tie.spec
-    (λ c. omega (arith, facts (c .before .before .pre .0) .size, facts (c .before .before .pre .0) .few))  -- slice-read-c
-    (λ c. omega (arith, facts (c .before .before .pre .0) .size, facts (c .before .before .pre .0) .few))  -- mul-start
-    (λ c. omega (arith, facts (c .before .before .pre .0) .size, facts (c .before .before .pre .0) .few))  -- add-start
-    (λ c. omega (arith, facts (c .before .before .pre .0) .size, facts (c .before .before .pre .0) .few))  -- sub-shift-down
-    (λ c. omega (arith, facts (c .before .before .pre .0) .size, facts (c .before .before .pre .0) .few))  -- part-shift-down-start
-    (λ c. omega (arith, facts (c .before .before .pre .0) .size, facts (c .before .before .pre .0) .few))  -- part-shift-down-end
-    (λ c. omega (arith, facts (c .before .before .before .pre .0) .size, facts (c .before .before .before .pre .0) .few))  -- mul-shift-down
+    (λ c. omega (arith, facts (c .before .before .pre .0)))  -- slice-read-c
+    (λ c. omega (arith, facts (c .before .before .pre .0)))  -- mul-start
+    (λ c. omega (arith, facts (c .before .before .pre .0)))  -- add-start
+    (λ c. omega (arith, facts (c .before .before .pre .0)))  -- sub-shift-down
+    (λ c. omega (arith, facts (c .before .before .pre .0)))  -- part-shift-down-start
+    (λ c. omega (arith, facts (c .before .before .pre .0)))  -- part-shift-down-end
+    (λ c. omega (arith, facts (c .before .before .before .pre .0)))  -- mul-shift-down
     -- shift-down-requires
     (λ c κs.
     let start = c .before .before .before in
@@ -25,5 +25,8 @@ take-out-spec =
     (λ c. search needs)  -- sub-part
     (λ c. omega (arith, facts (c .before .before .before .before .before .before .pre .0) .size, c .before .part .given))  -- slice-write-part
     (λ c. search needs)  -- same-length
-    (λ c. taken-out (c .before .before .before .before .before .before .pre .0) _ _ (c .before .before .before .before .before .before .pre .1) (c .before .before .shift-down .ensures))  -- returns
+    -- returns
+    (λ c.
+    let start = c .before .before .before .before .before .before in
+    taken-out (start .pre .0) _ _ (start .pre .1) (c .before .before .shift-down .ensures))
     )

@@ -27,6 +27,8 @@ steps-follow-spec =
     (λ c. search needs)  -- lent-label-requires
     (λ c. search needs)  -- add-i
     (λ c. search needs)  -- loop-less
-    (λ c. let l = c .before .before .before .before .loop in (follow-next (l .inv .0) (c .before .before .before .loop-test .taken) (c .before .before .lent-follows .ensures) (c .before .if1 .left) (c .lent-label .ensures), l .inv .1))  -- loop-again
+    -- loop-again
+    (λ c.
+    let l = c .before .before .before .before .loop in (follow-next (l .inv .0) (c .before .before .before .loop-test .taken) (c .before .before .lent-follows .ensures) (c .before .if1 .left) (c .lent-label .ensures), l .inv .1))
     (λ c. follow-end (c .before .loop .inv .0) (c .loop-test .left))  -- returns-2
     )

@@ -1,10 +1,16 @@
 -- `head_of`: a number, a tab, a byte and a tab.
 use borrow.Author.Needs.{needs}
+use Prim.Native.Nat.{_+_, _≤_}
+use lib.ListN.{length}
 use native.Mathlib.Omega.{arith}
-use Rattle.script.proofs.Numerals.{number-is, number-none}
-use Rattle.script.proofs.Callings.{head-none, head-untabbed, head-within, head-unparted, head-end, head-found}
+use Rattle.script.proofs.Goings.{begins-within}
+use Rattle.script.proofs.Callings.{subject, head-none, head-untabbed, head-unparted, head-found}
 use Rattle.script.proofs.head_of.Statement.{statement}
 use Rattle.script.proofs.head_of.Tie as tie
+
+-- the second tab is within the line
+parted : (c : tie.Else2) → c .before .before .before .before .before .subject .given .0 .1 .0 + 2 + 1 ≤ length (c .before .before .before .before .before .before .before .before .before .args .line .now)
+parted c = search begins-within
 
 pub head-of-spec : {M : Type 1} → statement M
 head-of-spec =
@@ -13,39 +19,22 @@ head-of-spec =
     (λ c. search needs)  -- number-at-requires
     (λ c. search needs)  -- enum-known-subject
     (λ c. search needs)  -- enum-told
-    (λ c. let l = c .before .before .before .before .args .line .now in head-none (number-none 255 0 l (c .before .before .number-at .ensures) (c .enum-told .given .1)))  -- returns
+    (λ c. search head-none)  -- returns
     (λ c. search needs)  -- holds-requires
-    -- returns-2
-    (λ c.
-    let start = c .before .before .before .before .before .before .before in
-    let l = start .args .line .now in head-untabbed l (number-is 255 0 l (c .before .before .before .before .before .number-at .ensures) (c .before .before .before .subject .given .1)) (c .before .holds .ensures) (c .if1 .taken))
-    -- add-holds
-    (λ c.
-    let start = c .before .before .before .before .before .before .before in
-    let l = start .args .line .now in omega (arith, head-within l (number-is 255 0 l (c .before .before .before .before .before .number-at .ensures) (c .before .before .before .subject .given .1)) (c .before .holds .ensures) (c .if1 .left)))
+    (λ c. search head-untabbed)  -- returns-2
+    (λ c. let s = c .before .before .before in omega (arith, begins-within (s .before .before .before .before .args .line .now) (s .subject .given .0 .1 .0) 9 (c .before .holds .ensures) (c .if1 .left)))  -- add-holds
     (λ c. search needs)  -- holds-requires-2
-    -- returns-3
-    (λ c.
-    let l = c .before .before .before .before .before .before .before .before .before .args .line .now in
-    head-unparted l (number-is 255 0 l (c .before .before .before .before .before .before .before .number-at .ensures) (c .before .before .before .before .before .subject .given .1)) (c .before .before .before .holds .ensures) (c .before .before .if1 .left) (c .before .holds2 .ensures) (c .if2 .taken))
+    (λ c. search head-unparted)  -- returns-3
     -- cast-t8
     (λ c.
-    let start = c .before .before .before .before .before .before .before .before .before in
-    let l = start .args .line .now in omega (arith, (number-is 255 0 l (c .before .before .before .before .before .before .before .number-at .ensures) (c .before .before .before .before .before .subject .given .1)) .2 .small))
-    -- add-t7
-    (λ c.
-    let start = c .before .before .before .before .before .before .before .before .before in
-    let l = start .args .line .now in omega (arith, head-within l (number-is 255 0 l (c .before .before .before .before .before .before .before .number-at .ensures) (c .before .before .before .before .before .subject .given .1)) (c .before .before .before .holds .ensures) (c .before .before .if1 .left)))
-    -- shared-slice-read-t10
-    (λ c.
-    let l = c .before .before .before .before .before .before .before .before .before .before .args .line .now in
-    omega (arith, head-end l (number-is 255 0 l (c .before .before .before .before .before .before .before .before .number-at .ensures) (c .before .before .before .before .before .before .subject .given .1)) (c .before .before .before .before .holds .ensures) (c .before .before .before .if1 .left) (c .before .before .holds2 .ensures) (c .before .if2 .left)))
-    -- add-t11
-    (λ c.
-    let l = c .before .before .before .before .before .before .before .before .before .before .args .line .now in
-    omega (arith, head-end l (number-is 255 0 l (c .before .before .before .before .before .before .before .before .number-at .ensures) (c .before .before .before .before .before .before .subject .given .1)) (c .before .before .before .before .holds .ensures) (c .before .before .before .if1 .left) (c .before .before .holds2 .ensures) (c .before .if2 .left)))
+    let s = c .before .before .before .before .before in
+    omega (arith, subject _ (s .before .before .number-at .ensures) (s .subject .given .1) .small))
+    (λ c. omega (arith, parted c))  -- add-t7
+    (λ c. omega (arith, parted (c .before)))  -- shared-slice-read-t10
+    (λ c. omega (arith, parted (c .before)))  -- add-t11
     -- returns-4
     (λ c.
-    let l = c .before .before .before .before .before .before .before .before .before .before .args .line .now in
-    head-found l (number-is 255 0 l (c .before .before .before .before .before .before .before .before .number-at .ensures) (c .before .before .before .before .before .before .subject .given .1)) (c .before .before .before .before .holds .ensures) (c .before .before .before .if1 .left) (c .before .before .holds2 .ensures) (c .before .if2 .left))
+    let s = c .before .before .before .before .before .before in
+    head-found (s .before .before .before .before .args .line .now) (s .before .before .number-at .ensures) (s .subject .given .1)
+    (c .before .before .before .before .holds .ensures) (c .before .before .before .if1 .left) (c .before .before .holds2 .ensures) (c .before .if2 .left))
     )

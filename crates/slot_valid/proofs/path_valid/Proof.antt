@@ -14,5 +14,8 @@ path-valid-spec =
     (λ c. search needs)  -- steps-good-requires
     (λ c. path-unfit _ _ (c .before .before .before .before .depth .ensures) (c .before .before .before .if1 .left) (c .before .before .if2 .left) (c .before .steps-good .ensures) (c .if3 .taken))  -- returns-3
     (λ c. search needs)  -- step-label-requires
-    (λ c. path-ends _ _ (c .before .before .before .before .before .depth .ensures) (c .before .before .before .before .if1 .left) (c .before .before .before .if2 .left) (c .before .before .steps-good .ensures) (c .before .if3 .left) (c .step-label .ensures))  -- returns-4
+    -- returns-4
+    (λ c.
+    path-ends _ _ (c .before .before .before .before .before .depth .ensures) (c .before .before .before .before .if1 .left) (c .before .before .before .if2 .left)
+    (c .before .before .steps-good .ensures) (c .before .if3 .left) (c .step-label .ensures))
     )

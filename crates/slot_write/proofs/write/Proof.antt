@@ -21,13 +21,20 @@ write-spec =
     (λ c. search needs)  -- part-write-labels-start
     (λ c. omega (arith, simp length-set at (c .before .slot .given .1)))  -- part-write-labels-end
     (λ c. search needs)  -- write-labels-requires
+    -- replace-content-requires
     (λ c κs.
-    let start = c .before .before .before .before .before .before .before .before .before .before .before .before in
-    (c .before .before .slot2 .given .1 ∙ c .before .before .before .before .before .before .slot .given .1 ∙ simp length-set (start .pre .0), start .pre .2))  -- replace-content-requires
-    (λ c. c .before .slot3 .given ∙ c .before .before .before .before .before .slot2 .given .1 ∙ c .before .before .before .before .before .before .before .before .before .slot .given .1 ∙ simp length-set)  -- same-length
+    let names = c .before .before .before .before .before .before in
+    let start = names .before .before .before .before .before .before in
+    (c .before .before .slot2 .given .1 ∙ names .slot .given .1 ∙ simp length-set (start .pre .0), start .pre .2))
+    -- same-length
     (λ c.
-    let start = c .before .before .before .before .before .before .before .before .before .before .before .before .before .before .before in
+    let labels = c .before .before .before .before .before in
+    c .before .slot3 .given ∙ labels .slot2 .given .1 ∙ labels .before .before .before .before .slot .given .1 ∙ simp length-set)
+    -- returns
+    (λ c.
+    let labels = c .before .before .before .before .before .before in
+    let names = labels .before .before .before .before in
+    let start = names .before .before .before .before .before in
     slot-written (start .args .slot .now) (start .pre .0) (start .args .path .now) (record { kind = start .args .kind; value = start .args .value .now })
-    (c .before .before .before .before .before .before .before .before .before .before .write-names .ensures) (c .before .before .before .before .before .before .write-labels .ensures)
-    (c .before .before .replace-content .ensures))  -- returns
+    (names .write-names .ensures) (labels .write-labels .ensures) (c .before .before .replace-content .ensures))
     )

@@ -11,7 +11,9 @@ write-value-spec =
     (λ c. search needs)  -- clear-requires
     (λ c. search needs)  -- copy-requires
     (λ c. search needs)  -- same-length
+    -- returns
     (λ c.
-    let start = c .before .before .before .before .before .before .before .before .before .before in
-    value-padded 16 3 (start .args .s .now) (start .args .value .now) (start .pre .0) (start .pre .1) (c .before .before .before .before .before .before .clear .ensures) (c .before .before .copy .ensures .1))  -- returns
+    let zeroed = c .before .before .before .before .before .before in
+    let start = zeroed .before .before .before .before in
+    value-padded 16 3 (start .args .s .now) (start .args .value .now) (start .pre .0) (start .pre .1) (zeroed .clear .ensures) (c .before .before .copy .ensures .1))
     )

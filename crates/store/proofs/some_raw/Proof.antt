@@ -3,7 +3,7 @@ use borrow.Author.Needs.{needs}
 use Prim.Native.Nat.{_-_}
 use Rattle.model.specs.Lists.{any}
 use Rattle.model.specs.Model.{openModel}
-use Rattle.model.specs.Call.{someRaw}
+use Rattle.model.specs.Rows.{someRaw}
 use Rattle.model.proofs.Walks.{Left, any-found, any-next, any-end}
 use Rattle.store.proofs.Parts.{rawAt, raw-start}
 use Rattle.store.proofs.some_raw.Statement.{statement}

@@ -21,19 +21,21 @@ put-value-spec =
     (λ c. search needs)  -- put-signed-requires
     (λ c. search needs)  -- same-length
     (λ c.
-    let number = c .before .before .put-signed .ensures in
-    let shows = as-number _ (c .before .before .before .before .before .before .before .before .before .before .pre .1) (c .before .before .before .before .before .before .before .wide .ensures) (c .before .before .before .before .before .before .rule-of .ensures) (c .before .before .before .before .before .if1 .taken) (c .before .before .before .measure-of .ensures) in
-    (wrote-as shows (number .0), omega (arith, number .1)))  -- returns
+    let number = c .before .before .before .before .before in
+    let start = number .before .before .before .before .before in
+    let shows = as-number _ (start .pre .1) (number .before .before .wide .ensures) (number .before .rule-of .ensures) (number .if1 .taken) (c .before .before .before .measure-of .ensures) in
+    wrote-as shows (c .before .before .put-signed .ensures))  -- returns
     (λ c. search needs)  -- put-byte-requires
     (λ c. search needs)  -- same-length-2
     (λ c.
-    let dash = c .before .before .put-byte .ensures in
-    (wrote-as (shown-none _ _ (c .before .before .before .before .before .before .before .before .before .before .pre .1) (c .before .before .before .before .if2 .taken)) dash, omega (arith, dash .ends)))  -- returns-2
-    (λ c κs. omega (arith, allowed-length _ _ (c .before .before .before .before .before .before .before .pre .1)))  -- put-bytes-requires
+    let none = c .before .before .before .before in
+    wrote-as (shown-none _ _ (none .before .before .before .before .before .before .pre .1) (none .if2 .taken)) (c .before .before .put-byte .ensures))  -- returns-2
+    (λ c κs. omega (arith, allowed-length))  -- put-bytes-requires
     (λ c. search needs)  -- same-length-3
     (λ c.
-    let text = c .before .before .put-bytes .ensures in
-    let start = c .before .before .before .before .before .before .before .before .before .before in
-    let shows = as-text _ (start .pre .1) (c .before .before .before .before .before .before .before .wide .ensures) (c .before .before .before .before .before .before .rule-of .ensures) (c .before .before .before .before .before .if1 .left) (c .before .before .before .before .if2 .left) in
-    (wrote-as shows text, omega (arith, text .ends, allowed-length _ _ (start .pre .1))))  -- returns-3
+    let none = c .before .before .before .before in
+    let number = none .before in
+    let start = number .before .before .before .before .before in
+    let shows = as-text _ (start .pre .1) (number .before .before .wide .ensures) (number .before .rule-of .ensures) (number .if1 .left) (none .if2 .left) in
+    wrote-as shows (c .before .before .put-bytes .ensures))  -- returns-3
     )

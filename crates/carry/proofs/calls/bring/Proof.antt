@@ -31,7 +31,11 @@ bring-spec =
     (λ c. search needs)  -- same-length-2
     -- returns-3
     (λ c.
+    let v2 = c .before .before .before .before .before .before .before .v2 in
     let start = c .before .before .before .before .before .before .before .before .before .before .before in
-    let text-start = c .before .before .before .before .before .text-start in
-    (text-brought (start .args .line .now) (c .before .before .before .before .before .before .before .v2 .given .1) (text-start .ensures) (start .args .bytes .now) (text-part (start .args .line .now) (text-start .result)) (c .before .before .copy .ensures .1), text-short (start .args .line .now) (text-start .result) _ (start .pre .0)))
+    let text-start = c .before .before .before .before .before .text-start in (
+      text-brought (start .args .line .now) (v2 .given .1) (text-start .ensures) (start .args .bytes .now) (text-part (start .args .line .now) (text-start .result))
+          (c .before .before .copy .ensures .1),
+      text-short (start .args .line .now) (text-start .result) _ (start .pre .0),
+    ))
     )

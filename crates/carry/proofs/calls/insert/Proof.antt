@@ -21,5 +21,5 @@ insert-spec =
     (λ c.
     let start = c .before .before .before .before .before .before .before .before .before .before .before .before in
     let bring = c .before .before .before .before .before .before .before .bring in
-    brought-did (insert (start .args .path .now)) (start .args .line .now) (start .args .v) (bring .result .size) (bring .last .1 .1 .0) (bring .ensures .0) (c .before .before .insert .ensures))
+    brought-did (insert (start .args .path .now)) (start .args .line .now) (start .args .v) (bring .result .size) (bring .last .1 .1 .0) (bring .ensures .0) (start .args .subject) (c .before .before .insert .ensures))
     )

@@ -28,16 +28,19 @@ perform-spec =
     (λ c. search needs)  -- same-length-3
     -- returns-2
     (λ c.
+    let call = c .before .before .before .before .before .before .call in
     let start = c .before .before .before .before .before .before .before .before .before .before .before .before in
-    performed-as (on-call (start .args .read) (c .before .before .before .before .before .before .call .given .1) (start .args .path .now) (start .args .line .now)) (silent-performed (start .args .out .now) (c .before .before .before .insert .ensures) (c .silent .ensures)))
+    performed-as (on-call (start .args .read) (call .given .1) (start .args .path .now) (start .args .line .now)) (silent-performed (start .args .out .now) (c .before .before .before .insert .ensures) (c .silent .ensures)))
     (λ c. search needs)  -- same-length-4
     -- returns-3
     (λ c.
+    let call2 = c .before .before .before .before .before .before .call2 in
     let start = c .before .before .before .before .before .before .before .before .before .before .before .before in
-    performed-as (on-call (start .args .read) (c .before .before .before .before .before .before .call2 .given .1) (start .args .path .now) (start .args .line .now)) (silent-performed (start .args .out .now) (c .before .before .before .update .ensures) (c .silent2 .ensures)))
+    performed-as (on-call (start .args .read) (call2 .given .1) (start .args .path .now) (start .args .line .now)) (silent-performed (start .args .out .now) (c .before .before .before .update .ensures) (c .silent2 .ensures)))
     (λ c. search needs)  -- same-length-5
     -- returns-4
     (λ c.
     let start = c .before .before .before .before .before .before .before .before .before .before .before in
-    performed-as (on-call (start .args .read) (c .before .before .before .before .before .enum-told2 .given .1) (start .args .path .now) (start .args .line .now)) (silent-performed (start .args .out .now) (c .before .before .before .delete .ensures) (c .silent3 .ensures)))
+    performed-as (on-call (start .args .read) (c .before .before .before .before .before .enum-told2 .given .1) (start .args .path .now) (start .args .line .now))
+    (silent-performed (start .args .out .now) (c .before .before .before .delete .ensures) (c .silent3 .ensures)))
     )

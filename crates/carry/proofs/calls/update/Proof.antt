@@ -21,5 +21,5 @@ update-spec =
     (λ c.
     let start = c .before .before .before .before .before .before .before .before .before .before .before .before in
     let bring = c .before .before .before .before .before .before .before .bring in
-    brought-did (update (start .args .path .now)) (start .args .line .now) (start .args .v) (bring .result .size) (bring .last .1 .1 .0) (bring .ensures .0) (c .before .before .update .ensures))
+    brought-did (update (start .args .path .now)) (start .args .line .now) (start .args .v) (bring .result .size) (bring .last .1 .1 .0) (bring .ensures .0) (start .args .subject) (c .before .before .update .ensures))
     )

@@ -16,7 +16,8 @@ same-spec =
     (λ c. no-since (c .before .same-file .ensures) (c .if2 .taken) (λ e. (ap (λ (k : Known). k .device) e, ap (λ (k : Known). k .inode) e)))  -- returns-2
     (λ c. search needs)  -- same-number-requires
     (λ c.
-    no-since (told (c .before .before .before .before .before .before .before .before .args .a .size) (c .before .before .before .before .before .before .before .before .args .b .size) (search needs) (search needs) (c .before .same-number .ensures))
+    no-since (told (c .before .before .before .before .before .before .before .before .args .a .size) (c .before .before .before .before .before .before .before .before .args .b .size) (search needs)
+    (search needs) (c .before .same-number .ensures))
     (c .if3 .taken) (ap (λ (k : Known). k .size)))  -- returns-3
     (λ c. search needs)  -- same-time-requires
     (λ c. no-since (c .before .same-time .ensures) (c .if4 .taken) (ap (λ (k : Known). k .written)))  -- returns-4
@@ -26,6 +27,8 @@ same-spec =
     (known-eq (c .before .before .before .before .before .before .before .before .before .before .before .args .a) (c .before .before .before .before .before .before .before .before .before .before .before .args .b)
     (since (c .before .before .before .before .before .before .before .before .before .before .same-rights .ensures) (c .before .before .before .before .before .before .before .before .before .if1 .left))
     (since (c .before .before .before .before .before .before .before .before .same-file .ensures) (c .before .before .before .before .before .before .before .if2 .left))
-    (since (told (c .before .before .before .before .before .before .before .before .before .before .before .args .a .size) (c .before .before .before .before .before .before .before .before .before .before .before .args .b .size) (search needs) (search needs) (c .before .before .before .before .same-number .ensures)) (c .before .before .before .if3 .left))
+    (since (told (c .before .before .before .before .before .before .before .before .before .before .before .args .a .size)
+    (c .before .before .before .before .before .before .before .before .before .before .before .args .b .size) (search needs) (search needs) (c .before .before .before .before .same-number .ensures))
+    (c .before .before .before .if3 .left))
     (since (c .before .before .same-time .ensures) (c .before .if4 .left))))  -- returns-5
     )

@@ -15,9 +15,11 @@ same-time-spec =
     no-since (told (c .before .before .before .before .args .a .«tv_sec») (c .before .before .before .before .args .b .«tv_sec») (search needs) (search needs) (c .before .same-number .ensures))
     (c .if1 .taken) (ap (λ (t : timespec). t .«tv_sec»)))  -- returns
     (λ c. search needs)  -- same-number-requires-2
+    -- returns-2
     (λ c.
-    as-told (told (c .before .before .before .before .before .before .before .args .a .«tv_nsec») (c .before .before .before .before .before .before .before .args .b .«tv_nsec») (search needs) (search needs) (c .same-number2 .ensures))
+    let start = c .before .before .before .before .before .before .before in
+    as-told (told (start .args .a .«tv_nsec») (start .args .b .«tv_nsec») (search needs) (search needs) (c .same-number2 .ensures))
     (ap (λ (t : timespec). t .«tv_nsec»))
-    (time-eq (c .before .before .before .before .before .before .before .args .a) (c .before .before .before .before .before .before .before .args .b)
-    (since (told (c .before .before .before .before .before .before .before .args .a .«tv_sec») (c .before .before .before .before .before .before .before .args .b .«tv_sec») (search needs) (search needs) (c .before .before .before .before .same-number .ensures)) (c .before .before .before .if1 .left))))  -- returns-2
+    (time-eq (start .args .a) (start .args .b)
+    (since (told (start .args .a .«tv_sec») (start .args .b .«tv_sec») (search needs) (search needs) (c .before .before .before .before .same-number .ensures)) (c .before .before .before .if1 .left))))
     )

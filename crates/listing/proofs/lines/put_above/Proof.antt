@@ -10,18 +10,18 @@ pub put-above-spec : {M : Type 1} → statement M
 put-above-spec =
     tie.close
     (tie.spec
-    (λ c κs. let p = c .before .before .pre in (p .1 .size, omega (arith, p .0 .1, used-steps (p .1))))  -- step-name-requires
-    (λ c κs. let p = c .before .before .before .pre in (p .1 .size, omega (arith, p .0 .1, used-steps (p .1))))  -- step-label-requires
+    (λ c κs. omega (arith, used-steps))  -- step-name-requires
+    (λ c κs. omega (arith, used-steps))  -- step-label-requires
     (λ c. search needs)  -- wide-requires
-    (λ c. let p = c .before .before .before .before .before .before .pre in omega (arith, p .0 .1, used-steps (p .1)))  -- add-narrow
-    (λ c κs. let p = c .before .before .before .before .before .before .pre in omega (arith, p .0 .1, used-steps (p .1)))  -- narrow-requires
+    (λ c. omega (arith, used-steps))  -- add-narrow
+    (λ c κs. omega (arith, used-steps))  -- narrow-requires
     (λ c. search needs)  -- put-removed-requires
     (λ c. search needs)  -- same-length
     (λ c.
-    let below = c .before .before .before .before .before .before .before .before .before .before .pre .0 .1 in
-    let name = c .before .before .before .before .before .before .before .step-name .ensures in
-    let label = c .before .before .before .before .before .before .step-label .ensures in
-    let wide = c .before .before .before .before .before .wide .ensures in
-    let wrote = c .before .before .put-removed .ensures in
-    (wrote-as (above-line _ _ below (c .before .before .before .narrow .ensures) name label wide) (wrote .0), wrote .1))  -- returns
+    let depth = c .before .before .before in
+    let label = depth .before .before in
+    let name = label .before .before in
+    let below = name .before .before .before .pre .0 .1 in
+    let shows = above-line _ _ below (depth .narrow .ensures) (name .step-name .ensures) (label .before .step-label .ensures) (label .wide .ensures) in
+    wrote-as shows (c .before .before .put-removed .ensures))  -- returns
     )

@@ -6,7 +6,7 @@ use borrow.Author.Needs.{needs}
 use lib.ListN.{length}
 use Rattle.text.proofs.Overlays.{Going, going-start, going-step, going-end}
 use Rattle.listing.specs.Used.{linesFrom}
-use Rattle.listing.proofs.Drawing.{used-steps, lines-more, lines-last}
+use Rattle.listing.proofs.Drawing.{used-steps, lines-more, lines-last, above-short}
 use Rattle.listing.proofs.lines.put_element.Statement.{statement}
 use Rattle.listing.proofs.lines.put_element.Tie as tie
 
@@ -27,34 +27,22 @@ put-element-spec =
     (λ c. search needs)  -- depth-requires
     (λ c. (search needs, search needs, search needs, going-start _ _ _, refl))  -- loop-holds
     (λ c. search needs)  -- add-loop
-    (λ c κs.
-    let l = c .before .before .loop in
-    let depth = c .before .before .before .depth .ensures .0 in
-    let p = c .before .before .before .before .before .before .pre in
-    ((omega (arith, p .0 .0, used-steps (p .1), depth, l .inv .0, l .inv .1, l .inv .2), omega (arith, depth, c .before .loop-test .taken)), p .1))  -- put-above-requires
+    (λ c κs. let p = c .before .before .before .before .before .before .pre in ((omega (arith, used-steps), omega arith), p .1))  -- put-above-requires
     (λ c. search needs)  -- add-d
     (λ c. search needs)  -- loop-less
     (λ c.
-    let l = c .before .before .before .before .before .loop in
+    let turn = c .before .before .before .before .before in
+    let l = turn .loop in
     let above = c .before .before .put-above in (
       search needs,
       search needs,
-      search needs,
-      going-step _ (lines-more _ (l .d) (omega arith)) (l .inv .3) (above .ensures .0),
+      omega (arith, l .inv, above .ensures, above-short (turn .before .before .before .before .pre .1) (l .d) (omega arith)),
+      going-step _ (lines-more _ (l .d) (omega arith)) (l .inv .3) (above .ensures),
       above .kept .0 ∙ l .inv .4,
     ))  -- loop-again
-    (λ c κs.
-    let l = c .before .before .loop in
-    let depth = c .before .before .before .depth .ensures .0 in
-    let p = c .before .before .before .before .before .before .pre in
-    (omega (arith, p .0 .0, used-steps (p .1), depth, l .inv .0, l .inv .1, l .inv .2), p .1))  -- put-own-requires
+    (λ c κs. let p = c .before .before .before .before .before .before .pre in (omega (arith, used-steps), p .1))  -- put-own-requires
     (λ c. c .before .before .put-own .kept .0 ∙ c .before .before .before .before .before .loop .inv .4)  -- same-length
     (λ c.
     let l = c .before .before .before .before .before .loop in
-    let depth = c .before .before .before .before .before .before .depth .ensures .0 in
-    let steps = used-steps (c .before .before .before .before .before .before .before .before .before .pre .1) in
-    let own = c .before .before .put-own in (
-      going-end refl (going-step _ (lines-last _ (l .d) (omega arith)) (l .inv .3) (own .ensures .0)),
-      omega (arith, steps, depth, l .inv .0, l .inv .1, l .inv .2, own .ensures .1),
-    ))  -- returns
+    going-end refl (going-step _ (lines-last _ (l .d) (omega arith)) (l .inv .3) (c .before .before .put-own .ensures)))  -- returns
     )

@@ -2,8 +2,7 @@
 use Prim.Native.Nat.{_-_}
 use lib.ListN.{length}
 use borrow.Author.Needs.{needs}
-use Rattle.model.proofs.Decimal.{digit-range}
-use Rattle.script.proofs.Numerals.{Ran, ran-start, ran-next, ran-over, ran-stop, ran-end, is-ran}
+use Rattle.script.proofs.Numerals.{Ran, ran-start, ran-next, ran-over, ran-stop, ran-end, digit-least}
 use Rattle.script.proofs.numbers.digits_at.Statement.{statement}
 use Rattle.script.proofs.numbers.digits_at.Tie as tie
 
@@ -19,26 +18,17 @@ digits-at-spec =
     (tie.spec
     Inv-loop
     μ-loop
-    (λ c. ran-start _ _ (c .before .pre .0))  -- loop-holds
-    (λ c. ran-over (c .before .before .loop .inv) _ (c .if1 .taken))  -- returns
+    (λ c. search ran-start)  -- loop-holds
+    (λ c. search ran-over)  -- returns
     (λ c. search needs)  -- shared-slice-read-is-digit
     (λ c. search needs)  -- is-digit-requires
-    -- returns-2
-    (λ c.
-    let l = c .before .before .before .before in
-    ran-stop (l .before .loop .inv) (l .loop-test .taken) (c .before .is-digit .ensures) _ (c .if2 .taken))
+    (λ c. search ran-stop)  -- returns-2
     (λ c. search needs)  -- mul-value
     (λ c. search needs)  -- shared-slice-read-digit
-    -- digit-requires
-    (λ c κs.
-    let l = c .before .before .before .before .before in
-    digit-range _ (is-ran (l .before .loop .inv) (l .loop-test .taken) (c .before .before .is-digit .ensures) (c .before .if2 .left)) .0)
+    (λ c κs. search digit-least)  -- digit-requires
     (λ c. search needs)  -- add-value
     (λ c. search needs)  -- add-i
     (λ c. search needs)  -- loop-less
-    -- loop-again
-    (λ c.
-    let l = c .before .before .before .before .before .before in
-    ran-next (l .before .loop .inv) (l .loop-test .taken) (c .before .before .before .is-digit .ensures) (c .before .before .if2 .left) (c .digit .ensures .0))
-    (λ c. ran-end (c .before .loop .inv) _ (c .loop-test .left))  -- returns-3
+    (λ c. search ran-next)  -- loop-again
+    (λ c. search ran-end)  -- returns-3
     )

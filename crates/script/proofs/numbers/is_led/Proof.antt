@@ -10,7 +10,7 @@ is-led-spec =
     (tie.spec
     (λ c. led-none _ _ _ (c .if1 .taken))  -- returns
     (λ c. search needs)  -- add-if2
-    (λ c. let s = c .before .before in led-one _ _ _ (s .pre .0) (s .pre .1) (c .before .if1 .left) (c .if2 .taken))  -- returns-2
+    (λ c. search led-one)  -- returns-2
     (λ c. search needs)  -- shared-slice-read-result
-    (λ c. let s = c .before .before .before in led-more _ _ _ (s .pre .0) (s .pre .1) (c .before .before .if1 .left) (c .before .if2 .left))  -- returns-3
+    (λ c. search led-more)  -- returns-3
     )

@@ -9,8 +9,8 @@ number-at-spec =
     tie.close
     (tie.spec
     (λ c. search needs)  -- digits-at-requires
-    (λ c. number-over (c .before .digits-at .ensures) (c .if1 .taken))  -- returns
+    (λ c. search number-over)  -- returns
     (λ c. search needs)  -- is-led-requires
-    (λ c. number-unled (c .before .before .before .digits-at .ensures) (c .before .before .if1 .left) (c .before .is-led .ensures) (c .if2 .taken))  -- returns-2
-    (λ c. number-found (c .before .before .before .digits-at .ensures) (c .before .before .if1 .left) (c .before .is-led .ensures) (c .if2 .left))  -- returns-3
+    (λ c. search number-unled)  -- returns-2
+    (λ c. search number-found)  -- returns-3
     )

@@ -3,7 +3,8 @@ use Prim.Native.Nat.{_-_, suc}
 use lib.ListN.{length}
 use native.Mathlib.Omega.{arith}
 use borrow.Author.Needs.{needs}
-use Rattle.script.proofs.Trails.{Trail, trail-start, trail-none, trail-room, trail-size, trail-end, trail-stop, trail-next, step-is}
+use Rattle.script.proofs.Goings.{begins-within}
+use Rattle.script.proofs.Trails.{Trail, trail-start, trail-none, trail-room, trail-size, trail-end, trail-stop, trail-next, trail-less}
 use Rattle.script.proofs.paths.steps_at.Statement.{statement}
 use Rattle.script.proofs.paths.steps_at.Tie as tie
 
@@ -19,77 +20,38 @@ steps-at-spec =
     (tie.spec
     Inv-loop
     μ-loop
-    (λ c. trail-start _ _ _ (c .before .before .pre .0 .0))  -- loop-holds
+    (λ c. search trail-start)  -- loop-holds
     (λ c. search needs)  -- step-at-requires
     (λ c. search needs)  -- enum-known-name
     (λ c. search needs)  -- enum-told
     (λ c. search needs)  -- same-length
-    (λ c. trail-none (c .before .before .before .loop .inv) (c .before .before .step-at .ensures) (c .enum-told .given .1))  -- returns
+    (λ c. search trail-none)  -- returns
     -- put-step-requires
     (λ c κs.
     let s = c .before .before .before .before in
-    let o = s .before in
-    let a = o .before .before .before in
-    let f = step-is _ _ (s .step-at .ensures) (c .before .before .name .given .1) in
-    (trail-room (o .loop .inv) (a .pre .0 .1) (a .pre .1) f, (f .2 .name-fits, f .2 .label-fits)))
+    let a = s .before .before .before .before in
+    trail-room (s .before .loop .inv) (s .step-at .ensures) (a .pre .0 .1) (a .pre .1) (c .before .before .name .given .1))
     -- add-n
     (λ c.
-    let p = c .before .before in
-    let o = p .before .before .before .before .before .before in
+    let o = c .before .before .before .before .before .before .before .before in
     omega (arith, o .loop .inv .passed, o .loop .inv .within, o .before .before .before .pre .0 .1))
     (λ c. search needs)  -- is-closed-requires
-    -- same-length-2
-    (λ c.
-    let p = c .before .before .before .before in
-    let s = p .before .before .before .before .before in
-    let o = s .before in
-    let a = o .before .before .before in
-    trail-size (o .loop .inv) (a .pre .0 .1) (a .pre .1) (step-is _ _ (s .step-at .ensures) (p .before .before .before .name .given .1)) (p .put-step .ensures))
-    -- returns-2
-    (λ c.
-    let p = c .before .before .before .before in
-    let s = p .before .before .before .before .before in
-    let o = s .before in
-    let a = o .before .before .before in
-    trail-end (o .loop .inv) (a .pre .0 .1) (a .pre .1) (step-is _ _ (s .step-at .ensures) (p .before .before .before .name .given .1)) (p .put-step .ensures) (c .before .is-closed .ensures) (c .if1 .taken))
+    (λ c. search trail-size)  -- same-length-2
+    (λ c. search trail-end)  -- returns-2
     (λ c. search needs)  -- holds-requires
-    -- same-length-3
-    (λ c.
-    let p = c .before .before .before .before .before .before in
-    let s = p .before .before .before .before .before in
-    let o = s .before in
-    let a = o .before .before .before in
-    trail-size (o .loop .inv) (a .pre .0 .1) (a .pre .1) (step-is _ _ (s .step-at .ensures) (p .before .before .before .name .given .1)) (p .put-step .ensures))
-    -- returns-3
-    (λ c.
-    let p = c .before .before .before .before .before .before in
-    let s = p .before .before .before .before .before in
-    let o = s .before in
-    let a = o .before .before .before in
-    trail-stop (o .loop .inv) (a .pre .0 .1) (a .pre .1) (step-is _ _ (s .step-at .ensures) (p .before .before .before .name .given .1)) (p .put-step .ensures) (c .before .before .before .is-closed .ensures) (c .before .before .if1 .left)
-    (c .before .holds .ensures) (c .if2 .taken))
+    (λ c. search trail-size)  -- same-length-3
+    (λ c. search trail-stop)  -- returns-3
     -- add-i
     (λ c.
-    let p = c .before .before .before .before .before .before in
-    let s = p .before .before .before .before .before in
-    let o = s .before in
-    let a = o .before .before .before in
-    let f = step-is _ _ (s .step-at .ensures) (p .before .before .before .name .given .1) in
-    omega (arith, f .1, a .pre .0 .1))
-    -- loop-less
-    (λ c.
-    let p = c .before .before .before .before .before .before in
-    let s = p .before .before .before .before .before in
-    let o = s .before in
-    let a = o .before .before .before in
-    let f = step-is _ _ (s .step-at .ensures) (p .before .before .before .name .given .1) in
-    omega (arith, f .0, f .1))
+    let s = c .before .before .before .before .before .before .before .before .before .before .before in
+    let n = c .before .before .before .before .before .before .before .before .before .name in
+    omega (arith, begins-within (s .before .before .before .before .args .line .now) (n .given .0 .1 .1 .0) 47 (c .before .holds .ensures) (c .if2 .left)))
+    (λ c. search trail-less)  -- loop-less
     -- loop-again
     (λ c.
     let p = c .before .before .before .before .before .before in
     let s = p .before .before .before .before .before in
-    let o = s .before in
-    let a = o .before .before .before in
-    trail-next (o .loop .inv) (a .pre .0 .1) (a .pre .1) (step-is _ _ (s .step-at .ensures) (p .before .before .before .name .given .1)) (p .put-step .ensures) (c .before .before .before .is-closed .ensures) (c .before .before .if1 .left)
-    (c .before .holds .ensures) (c .if2 .left))
+    let a = s .before .before .before .before in
+    trail-next (s .before .loop .inv) (s .step-at .ensures) (a .pre .0 .1) (a .pre .1) (p .before .before .before .name .given .1)
+    (p .put-step .ensures) (c .before .before .before .is-closed .ensures) (c .before .before .if1 .left) (c .before .holds .ensures) (c .if2 .left))
     )

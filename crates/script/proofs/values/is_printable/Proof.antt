@@ -20,11 +20,11 @@ is-printable-spec =
     μ-loop
     (λ c. clean-start _ _ (c .pre))  -- loop-holds
     (λ c. search needs)  -- shared-slice-read-if1
-    (λ c. clean-low (c .before .before .before .loop .inv) (c .before .before .loop-test .taken) (c .if1 .taken))  -- returns
+    (λ c. search clean-low)  -- returns
     (λ c. search needs)  -- shared-slice-read-if2
-    (λ c. clean-high (c .before .before .before .before .before .loop .inv) (c .before .before .before .before .loop-test .taken) (c .before .before .if1 .left) (c .if2 .taken))  -- returns-2
+    (λ c. search clean-high)  -- returns-2
     (λ c. search needs)  -- add-i
     (λ c. search needs)  -- loop-less
-    (λ c. clean-next (c .before .before .before .before .before .loop .inv) (c .before .before .before .before .loop-test .taken) (c .before .before .if1 .left) (c .if2 .left))  -- loop-again
-    (λ c. clean-end (c .before .loop .inv) (c .loop-test .left))  -- returns-3
+    (λ c. search clean-next)  -- loop-again
+    (λ c. search clean-end)  -- returns-3
     )

@@ -2,7 +2,8 @@
 use borrow.Author.Needs.{needs}
 use Prim.Native.Nat.{_+_}
 use native.Mathlib.Omega.{arith}
-use Rattle.script.proofs.Showings.{whole-is, whole-no, sign-within, plain-none, plain-found, minus-none, minus-zero, minus-found}
+use Rattle.script.proofs.Goings.{begins-within}
+use Rattle.script.proofs.Showings.{whole-is, plain-none, plain-found, minus-none, minus-zero, minus-found}
 use Rattle.script.proofs.values.measure_at.Statement.{statement}
 use Rattle.script.proofs.values.measure_at.Tie as tie
 
@@ -14,42 +15,22 @@ measure-at-spec =
     (λ c. search needs)  -- whole-at-requires
     (λ c. search needs)  -- enum-known-n
     (λ c. search needs)  -- enum-told
-    -- returns
-    (λ c.
-    let a = c .before .before .before .before .before .before .args in
-    plain-none (a .line .now) (a .at) (c .before .before .before .before .holds .ensures) (c .before .before .before .if1 .taken)
-    (whole-no 2147483647 (a .at) (a .line .now) (c .before .before .whole-at .ensures) (c .enum-told .given .1)))
+    (λ c. search plain-none)  -- returns
     -- cast-t8
     (λ c.
     let a = c .before .before .before .before .before .before .before .args in
     omega (arith, whole-is 2147483647 (a .at) (a .line .now) (c .before .before .before .whole-at .ensures) (c .before .n .given .1) .0))
-    -- returns-2
-    (λ c.
-    let a = c .before .before .before .before .before .before .before .args in
-    plain-found (a .line .now) (a .at) (c .before .before .before .before .before .holds .ensures) (c .before .before .before .before .if1 .taken)
-    (whole-is 2147483647 (a .at) (a .line .now) (c .before .before .before .whole-at .ensures) (c .before .n .given .1)))
+    (λ c. search plain-found)  -- returns-2
     (λ c. search needs)  -- add-whole-at
-    (λ c κs. let a = c .before .before .before .args in (sign-within (a .line .now) (a .at) (c .before .holds .ensures) (c .if1 .left), search needs))  -- whole-at-requires-2
+    (λ c κs. search (needs, begins-within))  -- whole-at-requires-2
     (λ c. search needs)  -- enum-known-n-2
     (λ c. search needs)  -- enum-told-2
-    -- returns-3
-    (λ c.
-    let a = c .before .before .before .before .before .before .args in
-    minus-none (a .line .now) (a .at) (c .before .before .before .before .holds .ensures) (c .before .before .before .if1 .left)
-    (whole-no 2147483648 (a .at + 1) (a .line .now) (c .before .before .whole-at2 .ensures) (c .enum-told2 .given .1)))
-    -- returns-4
-    (λ c.
-    let a = c .before .before .before .before .before .before .before .before .args in
-    minus-zero (a .line .now) (a .at) (c .before .before .before .before .before .before .holds .ensures) (c .before .before .before .before .before .if1 .left)
-    (whole-is 2147483648 (a .at + 1) (a .line .now) (c .before .before .before .before .whole-at2 .ensures) (c .before .before .n2 .given .1)) (c .if2 .taken))
+    (λ c. search minus-none)  -- returns-3
+    (λ c. search minus-zero)  -- returns-4
     -- sub-t12
     (λ c.
     let a = c .before .before .before .before .before .before .before .before .args in
     omega (arith, whole-is 2147483648 (a .at + 1) (a .line .now) (c .before .before .before .before .whole-at2 .ensures) (c .before .before .n2 .given .1) .0))
     (λ c. search needs)  -- cast-t13
-    -- returns-5
-    (λ c.
-    let a = c .before .before .before .before .before .before .before .before .args in
-    minus-found (a .line .now) (a .at) (c .before .before .before .before .before .before .holds .ensures) (c .before .before .before .before .before .if1 .left)
-    (whole-is 2147483648 (a .at + 1) (a .line .now) (c .before .before .before .before .whole-at2 .ensures) (c .before .before .n2 .given .1)) (c .if2 .left))
+    (λ c. search minus-found)  -- returns-5
     )

@@ -2,8 +2,9 @@
 use native.Mathlib.Omega.{arith}
 use borrow.Author.Needs.{needs}
 use mathlib.Core.Path.{sym}
-use Rattle.text.proofs.Numbers.{decimal-hundreds, pair-ends}
-use Rattle.text.proofs.Overlays.{then, wrote-as}
+use Rattle.text.proofs.Numbers.{decimal-hundreds}
+use Rattle.text.proofs.Overlays.{then, wrote-as, ends-by}
+use Rattle.text.proofs.Widths.{decimal-width}
 use Rattle.text.proofs.digits.put_below_10000.Statement.{statement}
 use Rattle.text.proofs.digits.put_below_10000.Tie as tie
 
@@ -15,10 +16,9 @@ put-below-10000-spec =
     (λ c. search needs)  -- same-length
     (λ c. search needs)  -- returns
     (λ c κs. search needs)  -- put-below-100-requires-2
-    (λ c κs. search needs)  -- put-pair-requires
+    (λ c κs. (omega (arith, ends-by (c .before .before .before .put-below-1002 .ensures) (decimal-width _ 1 (omega arith))), omega arith))  -- put-pair-requires
     (λ c. search needs)  -- same-length-2
     (λ c.
     let high = c .before .before .before .before .before .before .put-below-1002 .ensures in
-    let two = c .before .before .put-pair .ensures in
-    (wrote-as (sym (decimal-hundreds _ (c .before .before .before .before .before .before .before .before .if1 .left))) (then (high .0) two), omega (arith, high .1, pair-ends _ two)))  -- returns-2
+    wrote-as (sym (decimal-hundreds _ (c .before .before .before .before .before .before .before .before .if1 .left))) (then high (c .before .before .put-pair .ensures)))  -- returns-2
     )

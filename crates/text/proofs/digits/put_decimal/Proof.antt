@@ -2,8 +2,9 @@
 use native.Mathlib.Omega.{arith}
 use borrow.Author.Needs.{needs}
 use mathlib.Core.Path.{sym}
-use Rattle.text.proofs.Numbers.{decimal-myriads, four-ends}
-use Rattle.text.proofs.Overlays.{then, wrote-as}
+use Rattle.text.proofs.Numbers.{decimal-myriads}
+use Rattle.text.proofs.Overlays.{then, wrote-as, ends-by}
+use Rattle.text.proofs.Widths.{decimal-width}
 use Rattle.text.proofs.digits.put_decimal.Statement.{statement}
 use Rattle.text.proofs.digits.put_decimal.Tie as tie
 
@@ -15,10 +16,9 @@ put-decimal-spec =
     (λ c. search needs)  -- same-length
     (λ c. search needs)  -- returns
     (λ c κs. search needs)  -- put-below-1000000-requires
-    (λ c κs. search needs)  -- put-four-requires
+    (λ c κs. (omega (arith, ends-by (c .before .before .before .put-below-1000000 .ensures) (decimal-width _ 5 (omega arith))), omega arith))  -- put-four-requires
     (λ c. search needs)  -- same-length-2
     (λ c.
     let high = c .before .before .before .before .before .before .put-below-1000000 .ensures in
-    let digits = c .before .before .put-four .ensures in
-    (wrote-as (sym (decimal-myriads _ (c .before .before .before .before .before .before .before .before .if1 .left))) (then (high .0) digits), omega (arith, high .1, four-ends _ digits)))  -- returns-2
+    wrote-as (sym (decimal-myriads _ (c .before .before .before .before .before .before .before .before .if1 .left))) (then high (c .before .before .put-four .ensures)))  -- returns-2
     )

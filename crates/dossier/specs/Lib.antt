@@ -1,4 +1,0 @@
--- What the contracts of this crate cite beside the model, and the runs of the calls.
-pub mod Did
-pub mod Rows
-pub mod Ran

@@ -1,0 +1,3 @@
+-- Laws of calls that do as promised.
+pub mod Doing
+pub mod Runs

@@ -1,0 +1,3 @@
+-- What a call promises, and the runs of calls that do as promised.
+pub mod Did
+pub mod Ran

@@ -1,0 +1,1 @@
+// What the calls promise, and noninterference of the code: definitions and laws alone (specs/, proofs/).
