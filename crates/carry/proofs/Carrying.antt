@@ -13,7 +13,7 @@ use Rattle.carry.specs.Lines.{linesStore, Printed, Carried}
 
 -- ---- one list of lines behind another
 
-readings-append : (ls ms : List (List ℕ)) (rs qs : List (Option ScriptCall)) → Readings ls rs → Readings ms qs → Readings (ls ++ ms) (rs ++ qs)
+pub readings-append : (ls ms : List (List ℕ)) (rs qs : List (Option ScriptCall)) → Readings ls rs → Readings ms qs → Readings (ls ++ ms) (rs ++ qs)
 readings-append [] ms [] qs s t = t
 readings-append [] ms (r ∷ rs) qs s t = absurd s
 readings-append (l ∷ ls) ms [] qs s t = absurd s

@@ -1,2 +1,3 @@
 -- Laws of this crate.
 pub mod Sizes
+pub mod Turning

@@ -12,6 +12,7 @@ ghost use mathlib.Core.Path.{_≡_};
 ghost use Prim.Native.Nat.{_≤_};
 ghost use lib.ListN.{length};
 ghost use Rattle.model.specs.Store.{emptyStore};
+ghost use Rattle.console.specs.Turns.{Ran};
 
 // Takes the one argument. It leaves room for what a new file's name has more.
 fn main() {
@@ -157,7 +158,9 @@ fn change(name: &[u8], store: &mut [u8], before: &mut [u8; 41088], known: Known)
 }
 
 // Carries out the script on the bytes as they are. Where that is not done to the end, says so and yields false.
-fn carry_out(name: &[u8], bytes: &mut [u8]) -> bool {
+fn carry_out(name: &[u8], bytes: &mut [u8]) -> bool
+    ensures { λ r. ⌜ Ran r (now (bytes .entry)) (now (bytes .exit)) ⌝ }
+{
     if console::run(STDIN_FILENO, bytes) {
         return true;
     }

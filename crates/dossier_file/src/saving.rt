@@ -5,12 +5,16 @@ use crate::telling;
 use file_names::about;
 use file_names::about::Known;
 ghost use mathlib.Core.Path.{_≡_};
+ghost use mathlib.Core.Bool.{true};
 ghost use Prim.Native.Nat.{_≤_};
 ghost use lib.ListN.{length};
+ghost use Rattle.model.specs.Store.{emptyStore};
+ghost use Rattle.console.specs.Turns.{Ran};
 
-// Saves a store where there was no file, and says that it was made.
+// Saves a store where there was no file, and says that it was made. It is what a whole script's lines leave of the empty store.
 pub fn save_new(name: &[u8], store: &[u8])
     requires { ⌜ (length (now name) ≤ 4088) × (length (now store) ≡ 41088) ⌝ }
+    requires { ⌜ Ran true emptyStore (now store) ⌝ }
 {
     let none = about::none();
     if save(name, store, none) {
@@ -18,9 +22,10 @@ pub fn save_new(name: &[u8], store: &[u8])
     }
 }
 
-// Saves a store if it is not as it was before and its file may be written.
+// Saves a store if it is not as it was before and its file may be written. It is what a whole script's lines leave of the one before.
 pub fn save_over(name: &[u8], store: &[u8], before: &[u8], read: Known)
     requires { ⌜ (length (now name) ≤ 4088) × (length (now store) ≡ 41088) ⌝ }
+    requires { ⌜ Ran true (now before) (now store) ⌝ }
 {
     if check::same(store, before) {
         return;

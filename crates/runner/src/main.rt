@@ -2,7 +2,9 @@
 use libc::STDERR_FILENO;
 use libc::STDIN_FILENO;
 ghost use mathlib.Core.Path.{_≡_};
+ghost use mathlib.Core.Bool.{Bool};
 ghost use Rattle.model.specs.Store.{emptyStore};
+ghost use Rattle.console.specs.Turns.{Ran};
 
 // The store is empty at first.
 fn main() {
@@ -13,6 +15,7 @@ fn main() {
 // Carries out the script from the empty store; where that is not done to the end, says so on standard error.
 fn start(store: &mut [u8])
     requires { ⌜ now store ≡ emptyStore ⌝ }
+    ensures { λ _. ⌜ ((whole : Bool) × Ran whole emptyStore (now (store .exit))) ⌝ }
 {
     if !console::run(STDIN_FILENO, store) {
         io::write_all(
