@@ -9,7 +9,7 @@ use Rattle.model.specs.Lists.{gather}
 use Rattle.carry.specs.Lines.{Printed}
 use Rattle.batch.specs.Pieces.{ended, begun, last, span, kept}
 
--- of the first `at` bytes of the output all but the last `to` were handed on to be written, and these are moved nowhere
+-- of the first `at` bytes of the output the front was handed on to be written, and what is left of them are its first `to` bytes now
 pub record HandedOn (out : List ℕ) (at to : ℕ) : Type 0 where
   pub handed : List ℕ
   pub same : handed ++ take to out ≡ take at out

@@ -27,8 +27,9 @@ feed-line-spec =
     (λ c.
     let taken = c .before .before .before .before .before .before .before .before .before .take-in .ensures in
     let room = c .before .before .before .before .before .before .before .before .before .before .before .before .before .before .before .before .make-room .ensures in
-    let start = c .before .before .before .before .before .before .before .before .before .before .before .before .before .before .before .before .before .before .before .before .before .before .before in (
-      (omega (arith, taken .within, c .before .before .before .before .before .before .line .given, start .pre .0 .1), omega (arith, taken .done .within, c .before .before .out .given, start .pre .1 .1, room .1)),
-      line-taken (room .0) (omega (arith, room .1, start .pre .1 .1)) (length (start .args .out .now) - c .before .before .before .before .before .before .before .before .before .before .before .before .before .before .before .before .make-room .result .at) taken,
+    let rest = length (c .before .before .before .before .before .before .before .before .before .before .before .before .before .before .before .before .before .before .before .before .before .before .before .args .out .now) - c .before .before .before .before .before .before .before .before .before .before .before .before .before .before .before .before .make-room .result .at in
+    let pre = c .before .before .before .before .before .before .before .before .before .before .before .before .before .before .before .before .before .before .before .before .before .before .before .pre in (
+      (omega (arith, taken .within, c .before .before .before .before .before .before .line .given, pre .0 .1), omega (arith, taken .done .within, c .before .before .out .given, pre .1 .1, room .1)),
+      line-taken (room .0) (omega (arith, room .1, pre .1 .1)) rest taken,
     ))
     )

@@ -16,7 +16,8 @@ change-spec =
     (λ c κs.
     let start = c .before .before .before .before .before .before .before .before .before .before .before .before .before in
     let ran = ran-as (c .before .before .before .before .before .before .carry-out .ensures) (c .before .before .before .if1 .taken) in
-    let whole = copied (start .args .store .now) (start .args .before .now) (omega (arith, start .pre .1, c .before .before .before .before .before .before .before .before .before .copy-arg2 .given)) (c .before .before .before .before .before .before .before .before .copy .ensures .1) in
+    let size = c .before .before .before .before .before .before .before .before .before .copy-arg2 .given in
+    let whole = copied (start .args .store .now) (start .args .before .now) (omega (arith, start .pre .1, size)) (c .before .before .before .before .before .before .before .before .copy .ensures .1) in
     ((start .pre .0, omega (arith, start .pre .1, c .before .before .before .before .before .store .given)), ran-from whole ran))
     (λ c. search needs)  -- same-length
     (λ c. search needs)  -- returns
