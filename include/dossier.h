@@ -33,8 +33,8 @@
  *     writes. So two calls on one store run at the same time only if both are views. The library has no lock of its own.
  *   - The functions are declared as below, with nothing narrower.
  *
- * A view takes less than 6 KB of stack on x86-64 and the other calls less than 1 KB, as measured on a full store. No call
- * blocks.
+ * A view takes less than 6 KB of stack on x86-64, a view as XML less than 8 KB and the other calls less than 1 KB, as measured
+ * on a full store. No call blocks.
  */
 #ifndef DOSSIER_H
 #define DOSSIER_H
@@ -59,6 +59,10 @@ extern "C" {
 /* No listing has more bytes: at most 1,024 lines of live elements, 5,120 of removed ones and the first. An output of this
  * length is never refused by 10. The longest listing known has 114,861 bytes. */
 #define DOSSIER_LISTING_BYTES_MAX 119821
+
+/* No view as XML has more bytes: at most 1,024 live elements, 5,120 removed ones and the dossier tag. An output of this length
+ * is never refused by 10. The longest XML known has 414,816 bytes. */
+#define DOSSIER_XML_BYTES_MAX 426016
 
 /* The level of a label. */
 enum {
@@ -109,7 +113,7 @@ enum {
     DOSSIER_REFUSED_LIVE = 8,
     /* Insert: the subject's partition holds 32 elements. */
     DOSSIER_REFUSED_FULL = 9,
-    /* View: the output is shorter than the listing. */
+    /* View: the output is shorter than the listing or the XML. */
     DOSSIER_REFUSED_OUTPUT_SHORT = 10
 };
 
@@ -127,6 +131,18 @@ struct dossier_answer {
  * (removed), the kind (G, M, T, or - if removed), and the value: a measure in decimal, a text as it is, else -. */
 struct dossier_answer dossier_view(const uint8_t *store, size_t store_length, uint32_t subject, const uint8_t *path,
                                    size_t path_length, uint8_t *output, size_t output_length);
+
+/* Writes what dossier_view lists, the same elements in the same order, as XML 1.0 into the output.
+ * Count: the bytes written. The bytes of the output behind them keep their contents. The store is only read.
+ *
+ * The whole is <dossier subject="16">..</dossier>, with nothing before or behind it and no byte 0. An element is
+ * <e20 label="16" preserve="PRESENT" kind="M">..</e20>: e with the last step's name, the label, PRESENT (live) or REMOVED, and
+ * the kind (G, M, T, or - if removed). Inside stand its value and then the elements below it. The value is a measure in
+ * decimal, or a text with &amp; for &, &lt; for < and &gt; for >; a group and a removed element have none. One space stands
+ * before each attribute, and no other white space is added. The path's own element stands directly in the dossier tag: what is
+ * above it is not written. */
+struct dossier_answer dossier_view_xml(const uint8_t *store, size_t store_length, uint32_t subject, const uint8_t *path,
+                                       size_t path_length, uint8_t *output, size_t output_length);
 
 /* Makes one live element with a value. Its parent must be in view; a removed one will do. Count: 0.
  * Only the subject's partition is written. */

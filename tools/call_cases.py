@@ -2,21 +2,25 @@
 """Makes the input and the expected output of the program call_cases: crates/call_cases/stdin and crates/call_cases/stdout.
 
     python3 tools/call_cases.py                          the cases below, and the sequences that stdin has already
-    python3 tools/call_cases.py DIR/calls-*.jsonl        the cases below, and the chosen sequences of these files
+    python3 tools/call_cases.py DIR/*.jsonl              the cases below, and the chosen sequences of these files
     python3 tools/call_cases.py --check [FILES]          writes nothing, and fails where a file would be written otherwise
 
-What the calls must give comes from tools/reference.py, document 01 as a Python program. Each case also states the number, the
-count and the listing that the document fixes, by hand, and the reference is held to them. The sequences of a file bring their
-own answers, and the reference is held to these too; the SHA-256 of the store at the end of each stands below.
+The files are calls-*.jsonl, sequences of document 01's calls, and stage-NN.jsonl, sequences of the calls as they are after
+request NN of document 02.
+
+What the calls must give comes from tools/reference.py, documents 01 and 02 as a Python program. Each case also states the
+number, the count and the listing or the XML that the documents fix, by hand, and the reference is held to them. The sequences
+of a file bring their own answers, and the reference is held to these too; the SHA-256 of the store at the end of each stands
+below.
 
 A record of stdin is a head of four bytes, three words and two texts. The head: a letter, the lengths of the texts, zero. The
-words, lowest byte first: the store's length; a subject or a place; a kind or the output's length. The letters: V, I, U and D,
-the calls (texts: path and value); N, a name for what follows (text: a line); Z, every byte of the store becomes 0; X, bytes
-come onto the store from a place on (text: the bytes); S, the store is shown.
+words, lowest byte first: the store's length; a subject or a place; a kind or the output's length. The letters: V, M (the view
+as XML), I, U and D, the calls (texts: path and value); N, a name for what follows (text: a line); Z, every byte of the store
+becomes 0; X, bytes come onto the store from a place on (text: the bytes); S, the store is shown.
 
-stdout has for each call a line of its letter, number and count, and behind a view what it wrote, up to the last byte of the
-output that is not as it was; for each name a line; for S a line for each partition that is not empty: its number and its
-bytes, in hexadecimal digits, up to the last that is not 0.
+stdout has for each call a line of its letter, number and count, and behind V and M what was written, up to the last byte of the
+output that is not as it was, XML with an end of line behind it; for each name a line; for S a line for each partition that is
+not empty: its number and its bytes, in hexadecimal digits, up to the last that is not 0.
 """
 import base64
 import hashlib
@@ -34,7 +38,7 @@ BUFFER = 33 * PARTITION  # what the program keeps: a store, and some bytes behin
 
 records = []
 output = []
-answered = {letter: set() for letter in "VIUD"}
+answered = {letter: set() for letter in "VMIUD"}
 buffer = bytearray(BUFFER)
 
 
@@ -55,11 +59,13 @@ def record(letter, first=b"", second=b"", subject=0, third=0, size=BUFFER):
 
 
 def call(letter, path, value, subject, third, size):
-    """Carries out a call on the first bytes of the buffer; the third word is a view's output length, else a kind."""
+    """Carries out a call on the first bytes of the buffer; the third word is the output's length of V and M, else a kind."""
     model = Model(buffer[:size])
     number, count, text = model.call(letter, subject, path, third, value, third)
     buffer[:size] = model.bytes()
     output.append(b"%s %d %d\n" % (letter.encode(), number, count) + text)
+    if letter == "M" and number == 0:
+        output.append(b"\n")
     answered[letter].add(number)
     return number, count, text
 
@@ -73,7 +79,7 @@ def show_store():
 
 
 # ---------------------------------------------------------------------------------------------------------------------
-# How a case is written: what it calls, then the number and the count that document 01 fixes.
+# How a case is written: what it calls, then the number and the count that the documents fix.
 
 CASES = []
 G = (0, b"")
@@ -154,6 +160,28 @@ def view_lines(subject, where, lines):
     hold((number, text.split(b"\n")[0], text.count(b"\n")), (0, b"VIEW\t%d\t%d" % (subject, lines), lines + 1))
 
 
+def markup(subject, where, room, number, count=0, text="", size=STORE):
+    """A view as XML, and the XML."""
+    hold(record("M", path(where), b"", subject, room, size), (number, count, text.encode("latin-1")))
+
+
+def dossier(subject, *elements):
+    """A view's XML, of its elements."""
+    return '<dossier subject="%d">' % subject + "".join(elements) + "</dossier>"
+
+
+def e(name, label, kind, *inside):
+    """An element of XML: inside it its value, if it has one, and elements."""
+    tag = '<e%d label="%d" preserve="%s" kind="%s">' % (name, label, "REMOVED" if kind == "-" else "PRESENT", kind)
+    return tag + "".join(inside) + "</e%d>" % name
+
+
+def markup_elements(subject, where, elements):
+    """A view as XML of which only the number of elements is written in the case."""
+    number, count, text = record("M", path(where), b"", subject, 8000, STORE)
+    hold((number, text.count(b" label="), text.count(b"</e")), (0, elements, elements))
+
+
 def corrupt(offset, raw):
     """Bytes that come onto the store."""
     for i in range(0, len(raw), 255):
@@ -173,11 +201,12 @@ def show():
 
 
 def every_call(number, subject, where, value=G, size=STORE):
-    """All four calls are refused with one number."""
+    """All five calls are refused with one number."""
     insert(subject, where, value, number, size)
     update(subject, where, value, number, 0, size)
     delete(subject, where, number, 0, size)
     view(subject, where, 100, number, 0, (), size)
+    markup(subject, where, 100, number, 0, "", size)
 
 
 # ---------------------------------------------------------------------------------------------------------------------
@@ -266,6 +295,7 @@ def each_label():
     below = [1, 2, 2, 4, 2, 4, 4, 8]
     for subject in range(32):
         view_lines(subject, "/", below[subject % 8] * (subject // 8 + 1))
+        markup_elements(subject, "/", below[subject % 8] * (subject // 8 + 1))
     view(19, "117:17", 100, 0, 25, ["VIEW→19→1", "1→117→17→P→G→-"])
     view(16, "109:9", 100, 7)
     view(9, "116:16", 100, 7)
@@ -303,11 +333,13 @@ def path_lengths():
     update(0, steps[:18], G, 7)
     delete(0, steps[:18], 7)
     view(0, steps[:18], 100, 7)
+    markup(0, steps[:18], 100, 7)
     then("no step")
     insert(0, "/", G, 4)
     update(0, "/", G, 4)
     delete(0, "/", 4)
     view(0, "/", 22, 0, 22, ["VIEW→0→1", "1→10→0→P→G→-"])
+    markup(0, "/", 80, 0, 80, '<dossier subject="0"><e10 label="0" preserve="PRESENT" kind="G"></e10></dossier>')
     then("name 0, first and last; labels 32 and 255; labels not ascending")
     every_call(4, 0, "0:0")
     every_call(4, 0, "10:0/0:0")
@@ -518,6 +550,210 @@ def alone():
 
 
 # ---------------------------------------------------------------------------------------------------------------------
+# Views as XML: document 02's request 1/14.
+
+
+@case("XML of a view")
+def xml():
+    insert(0, "10:0", G, 0)
+    insert(16, "10:0/20:16", M(-150), 0)
+    insert(16, "10:0/20:16/5:16", T('a<b & "c">d'), 0)
+    insert(16, "11:16", T("&"), 0)
+    insert(0, "10:0/7:0", T("SLEEVE"), 0)
+    delete(0, "10:0", 0, 2)
+    e5 = '<e5 label="16" preserve="PRESENT" kind="T">a&lt;b &amp; "c"&gt;d</e5>'
+    e20 = '<e20 label="16" preserve="PRESENT" kind="M">-150' + e5 + "</e20>"
+    e10 = '<e10 label="0" preserve="REMOVED" kind="-">' + e20 + "</e10>"
+    e11 = '<e11 label="16" preserve="PRESENT" kind="T">&amp;</e11>'
+    whole = '<dossier subject="16">' + e10 + e11 + "</dossier>"
+    markup(0, "/", 1000, 0, 31, '<dossier subject="0"></dossier>')
+    markup(8, "/", 1000, 0, 31, '<dossier subject="8"></dossier>')
+    markup(16, "/", 1000, 0, 259, whole)
+    markup(31, "/", 1000, 0, 259, '<dossier subject="31">' + e10 + e11 + "</dossier>")
+    then("XML of a path below the root")
+    markup(16, "10:0", 1000, 0, 204, '<dossier subject="16">' + e10 + "</dossier>")
+    markup(16, "10:0/20:16", 1000, 0, 155, '<dossier subject="16">' + e20 + "</dossier>")
+    markup(16, "10:0/20:16/5:16", 1000, 0, 101, '<dossier subject="16">' + e5 + "</dossier>")
+    markup(16, "11:16", 1000, 0, 87, '<dossier subject="16">' + e11 + "</dossier>")
+    markup(16, "9:0", 1000, 7)
+    markup(16, "10:0/7:0", 1000, 7)
+    markup(0, "10:0", 1000, 7)
+    markup(9, "11:16", 1000, 7)
+    then("XML of 259 bytes, in 259, in 258 and in none")
+    markup(16, "/", 259, 0, 259, whole)
+    markup(16, "/", 258, 10)
+    markup(16, "/", 0, 10)
+    markup(16, "9:0", 0, 7)
+    then("the same elements in lines and in XML, in 77 bytes")
+    lines = ["VIEW→16→4", "1→10→0→R→-→-", "2→20→16→P→M→-150", '3→5→16→P→T→a<b & "c">d', "1→11→16→P→T→&"]
+    view(16, "/", 77, 0, 77, lines)
+    markup(16, "/", 77, 10)
+    show()
+
+
+@case("an empty view in XML")
+def xml_empty():
+    for subject, n in ((0, 31), (9, 31), (10, 32), (31, 32)):
+        markup(subject, "/", n, 0, n, '<dossier subject="%d"></dossier>' % subject)
+        markup(subject, "/", n - 1, 10)
+
+
+@case("the characters that are escaped")
+def xml_escapes():
+    insert(0, "1:0", T("&<>"), 0)
+    insert(0, "2:0", T("&" * 16), 0)
+    insert(0, "3:0", T("<" * 16), 0)
+    insert(0, "4:0", T(">" * 16), 0)
+    insert(0, "5:0", T("&amp;&lt;&quot;"), 0)
+    insert(0, "6:0", T("</e6>]]>"), 0)
+    insert(0, "7:0", T("\"it's\" 'so'"), 0)
+    markup(0, "1:0", 100, 0, 91, '<dossier subject="0"><e1 label="0" preserve="PRESENT" kind="T">&amp;&lt;&gt;</e1></dossier>')
+    markup(0, "3:0", 200, 0, 142, dossier(0, e(3, 0, "T", "&lt;" * 16)))
+    markup(0, "4:0", 200, 0, 142, dossier(0, e(4, 0, "T", "&gt;" * 16)))
+    markup(0, "5:0", 200, 0, 105, dossier(0, e(5, 0, "T", "&amp;amp;&amp;lt;&amp;quot;")))
+    markup(0, "6:0", 200, 0, 95, dossier(0, e(6, 0, "T", "&lt;/e6&gt;]]&gt;")))
+    then("a text of sixteen &, in 158 bytes and in 157")
+    markup(0, "2:0", 158, 0, 158, dossier(0, e(2, 0, "T", "&amp;" * 16)))
+    markup(0, "2:0", 157, 10)
+    then("a text with quotes and apostrophes")
+    markup(0, "7:0", 100, 0, 89, dossier(0, e(7, 0, "T", "\"it's\" 'so'")))
+    show()
+
+
+@case("every character of a text in XML")
+def xml_characters():
+    others = ["@ABCDEFGHIJKLMNO", "PQRSTUVWXYZ[\\]^_", "`abcdefghijklmno", "pqrstuvwxyz{|}~"]
+    for name, text in enumerate([" !\"#$%&'()*+,-./", "0123456789:;<=>?"] + others, 1):
+        insert(0, "%d:0" % name, T(text), 0)
+    written = [" !\"#$%&amp;'()*+,-./", "0123456789:;&lt;=&gt;?"] + others
+    markup(0, "/", 500, 0, 418, dossier(0, *[e(name, 0, "T", text) for name, text in enumerate(written, 1)]))
+
+
+@case("measures in XML")
+def xml_measures():
+    for name, n in enumerate([-2147483648, 2147483647, 0, -1, -10, 99], 1):
+        insert(0, "%d:0" % name, M(n), 0)
+    least, most = e(1, 0, "M", "-2147483648"), e(2, 0, "M", "2147483647")
+    others = [e(3, 0, "M", "0"), e(4, 0, "M", "-1"), e(5, 0, "M", "-10"), e(6, 0, "M", "99")]
+    markup(0, "/", 400, 0, 342, dossier(0, least, most, *others))
+    markup(0, "1:0", 89, 0, 89, '<dossier subject="0"><e1 label="0" preserve="PRESENT" kind="M">-2147483648</e1></dossier>')
+    markup(0, "1:0", 88, 10)
+
+
+@case("a removed element and an empty group in XML")
+def xml_removed():
+    insert(0, "10:0", T("PIECE"), 0)
+    insert(0, "10:0/20:0", M(5), 0)
+    insert(16, "10:0/20:0/30:16", G, 0)
+    insert(16, "10:0/21:16", G, 0)
+    e20 = e(20, 0, "M", "5", e(30, 16, "G"))
+    markup(16, "/", 300, 0, 236, dossier(16, e(10, 0, "T", "PIECE", e20, e(21, 16, "G"))))
+    delete(0, "10:0", 0, 2)
+    e20 = e(20, 0, "-", e(30, 16, "G"))
+    markup(16, "/", 300, 0, 230, dossier(16, e(10, 0, "-", e20, e(21, 16, "G"))))
+    markup(16, "10:0/20:0", 300, 0, 131, dossier(16, e20))
+    markup(16, "10:0/21:16", 300, 0, 82, '<dossier subject="16"><e21 label="16" preserve="PRESENT" kind="G"></e21></dossier>')
+    markup(0, "/", 300, 0, 31, dossier(0))
+    then("the removed element inserted again, in XML")
+    insert(0, "10:0", G, 0)
+    markup(16, "/", 300, 0, 230, dossier(16, e(10, 0, "G", e20, e(21, 16, "G"))))
+    markup(0, "/", 300, 0, 80, dossier(0, e(10, 0, "G")))
+    then("the mark vanishes in XML with the last live element below it")
+    delete(16, "10:0/20:0/30:16", 0, 1)
+    markup(16, "/", 300, 0, 131, dossier(16, e(10, 0, "G", e(21, 16, "G"))))
+    markup(16, "10:0/20:0", 300, 7)
+    show()
+
+
+@case("versions and names in XML in path order")
+def xml_order():
+    insert(0, "10:0", T("a"), 0)
+    insert(16, "10:16", T("b"), 0)
+    insert(9, "10:9", T("c"), 0)
+    insert(16, "10:0/10:16", T("d"), 0)
+    insert(9, "10:9/10:9", T("e"), 0)
+    for where in ("257:0", "255:0", "65535:0", "256:0", "1:0", "256:0/1:0"):
+        insert(0, where, G, 0)
+    names = [e(255, 0, "G"), e(256, 0, "G", e(1, 0, "G")), e(257, 0, "G"), e(65535, 0, "G")]
+    low, nine, high = e(10, 0, "T", "a", e(10, 16, "T", "d")), e(10, 9, "T", "c", e(10, 9, "T", "e")), e(10, 16, "T", "b")
+    markup(25, "/", 1000, 0, 586, dossier(25, e(1, 0, "G"), low, nine, high, *names))
+    markup(16, "/", 1000, 0, 486, dossier(16, e(1, 0, "G"), low, high, *names))
+    markup(9, "/", 1000, 0, 483, dossier(9, e(1, 0, "G"), e(10, 0, "T", "a"), nine, *names))
+    markup(25, "10:9", 1000, 0, 132, dossier(25, nine))
+    markup(25, "256:0", 1000, 0, 130, dossier(25, names[1]))
+
+
+@case("XML of 0 and 9 as 16 inserts and deletes and is corrupted")
+def xml_lower():
+    insert(0, "10:0", T("low"), 0)
+    insert(9, "10:0/20:9", M(1), 0)
+
+    def as_it_was():
+        """The XML of 0 and the XML of 9."""
+        markup(0, "/", 200, 0, 83, dossier(0, e(10, 0, "T", "low")))
+        markup(9, "/", 200, 0, 133, dossier(9, e(10, 0, "T", "low", e(20, 9, "M", "1"))))
+
+    as_it_was()
+    insert(16, "10:0/20:16", G, 0)
+    insert(16, "9:16", T("high"), 0)
+    as_it_was()
+    delete(16, "9:16", 0, 1)
+    as_it_was()
+    corrupt(PARTITION * 16 + 2, b"\1")
+    as_it_was()
+    markup(16, "/", 200, 3)
+    show()
+
+
+@case("six steps deep in XML")
+def xml_deep():
+    six = "1:0/2:1/3:1/4:3/5:11/6:27"
+    for n, label in enumerate((0, 1, 1, 3, 11, 27), 1):
+        insert(label, "/".join(six.split("/")[:n]), M(n), 0)
+    e3 = e(3, 1, "M", "3", e(4, 3, "M", "4", e(5, 11, "M", "5", e(6, 27, "M", "6"))))
+    markup(27, "/", 400, 0, 322, dossier(27, e(1, 0, "M", "1", e(2, 1, "M", "2", e3))))
+    markup(27, "1:0/2:1/3:1", 400, 0, 226, dossier(27, e3))
+    markup(27, six, 400, 0, 81, dossier(27, e(6, 27, "M", "6")))
+    markup(1, "1:0/2:1", 400, 0, 127, dossier(1, e(2, 1, "M", "2", e(3, 1, "M", "3"))))
+    then("five of the six removed, in XML")
+    delete(0, "1:0", 0, 1)
+    delete(1, "1:0/2:1", 0, 2)
+    delete(3, "1:0/2:1/3:1/4:3", 0, 1)
+    delete(11, "1:0/2:1/3:1/4:3/5:11", 0, 1)
+    e3 = e(3, 1, "-", e(4, 3, "-", e(5, 11, "-", e(6, 27, "M", "6"))))
+    markup(27, "/", 400, 0, 317, dossier(27, e(1, 0, "-", e(2, 1, "-", e3))))
+    markup(11, "/", 400, 0, 32, dossier(11))
+
+
+@case("siblings in XML after a deep branch")
+def xml_siblings():
+    # from six steps on to six, five, four, three, two and one, and from three steps to one
+    made = set()
+    for branch in ("1 2 3 4 5 6", "1 2 3 4 5 7", "1 2 3 4 8 1", "1 2 3 9 1 1", "1 2 10 1 1 1", "1 11 1 1 1 1", "12 1 1", "13"):
+        names = branch.split()
+        for n in range(1, len(names) + 1):
+            where = "/".join(name + ":0" for name in names[:n])
+            if where not in made:
+                insert(0, where, G, 0)
+                made.add(where)
+
+    def group(name, *inside):
+        """A group of label 0."""
+        return e(name, 0, "G", *inside)
+
+    e4 = group(4, group(5, group(6), group(7)), group(8, group(1)))
+    e2 = group(2, group(3, e4, group(9, group(1, group(1)))), group(10, group(1, group(1, group(1)))))
+    e11 = group(11, group(1, group(1, group(1, group(1)))))
+    e12 = group(12, group(1, group(1)))
+    markup(0, "/", 2000, 0, 1214, dossier(0, group(1, e2, e11), e12, group(13)))
+    markup(0, "1:0", 2000, 0, 1022, dossier(0, group(1, e2, e11)))
+    markup(0, "1:0/2:0", 2000, 0, 738, dossier(0, e2))
+    markup(0, "1:0/2:0/3:0/4:0", 2000, 0, 313, dossier(0, e4))
+    markup(0, "12:0", 2000, 0, 174, dossier(0, e12))
+    markup(0, "13:0", 2000, 0, 80, dossier(0, group(13)))
+
+
+# ---------------------------------------------------------------------------------------------------------------------
 # The table: each number on each call that can give it, and which comes first.
 
 
@@ -557,6 +793,7 @@ def refusal_3():
     update(0, "11:0", M(1), 0, 1)
     delete(0, "11:0", 0, 1)
     view(0, "/", 100, 0, 22, ["VIEW→0→1", "1→10→0→P→G→-"])
+    markup(0, "/", 100, 0, 80, '<dossier subject="0"><e10 label="0" preserve="PRESENT" kind="G"></e10></dossier>')
     insert(9, "10:9/11:9", G, 0)
     update(9, "10:9", M(1), 0, 2)
     view(9, "/", 100, 0, 35, ["VIEW→9→2", "1→10→0→P→G→-", "1→10→9→P→M→1"])
@@ -573,6 +810,7 @@ def refusal_3():
     every_call(3, 0, b"\1\2", (9, b""))
     every_call(3, 16, "12:0/13:0")
     view(0, "/", 0, 3)
+    markup(0, "/", 0, 3)
     show()
 
 
@@ -582,6 +820,8 @@ def refusal_4():
     every_call(4, 0, "0:16", (1, b""))
     view(0, "0:0", 0, 4)
     view(0, b"\1", 0, 4)
+    markup(0, "0:0", 0, 4)
+    markup(0, b"\1", 0, 4)
 
 
 @case("5 before 6, 7, 8 and 9")
@@ -618,6 +858,7 @@ def refusal_6():
 def refusal_7():
     every_call(7, 0, "10:0/20:0")
     view(0, "10:0", 100, 7)
+    markup(0, "10:0", 100, 7)
     update(0, "10:0", G, 7)
     delete(0, "10:0", 7)
     insert(16, "10:16", G, 0)
@@ -629,10 +870,15 @@ def refusal_7():
     insert(9, "10:9/20:9", G, 7)
     view(0, "10:16", 100, 7)
     view(9, "10:16", 100, 7)
+    markup(0, "10:16", 100, 7)
+    markup(9, "10:16", 100, 7)
     then("7 before 10; 8; 10")
     view(0, "10:16", 0, 7)
     view(16, "10:16/21:16", 0, 7)
     view(16, "10:16", 0, 10)
+    markup(0, "10:16", 0, 7)
+    markup(16, "10:16/21:16", 0, 7)
+    markup(16, "10:16", 0, 10)
     insert(16, "10:16", G, 8)
     insert(16, "10:16/20:16", M(1), 8)
     view(16, "10:16", 37, 10)
@@ -761,31 +1007,38 @@ def counts():
 
 
 # ---------------------------------------------------------------------------------------------------------------------
-# Sequences of files, chosen by their seeds: between them they give every number but 1. With each, the SHA-256 of its last store.
+# Sequences of files, chosen by their names: between them they give every number but 1. With each, the SHA-256 of its last store.
 
 CHOSEN = {
-    2: "9f497380710d4c12511be5625ef57716af53a0f0abf01cd06e30161ec2c223e4",
-    4: "2302a893e21f076f50abd462a770ff26bddd0c64c2682551e8781022b7cdf349",
-    7: "79858ec1f9d6444674f0cff639b8cd1981d45ea76a3e3b22245e622fc020b06e",
-    13: "ddcf9336406082fc0029a62ef7f7416845bb3ed251d12ebedf2b8101e49d8299",
-    14: "c85f8c89f48063b00c14a2c1f34eed78476758a133875bffbfd50f552aceb92d",
-    16: "c37d233190dd0afc3d61ccdc5ef82296e58f6da6a05155363865c9a4be91527c",
-    17: "27dc56f1b389e30f99ce94b90395593614b3cb582472c7249e99cfce09f9c1eb",
-    19: "20f461c0a8d63da936e94800bd4bf62af5b98bd2ff8f75f80703e39c2360c1a0",
-    20: "1d76601c6dcd4ae2bd0ab2f70e0be375f7d87b74c7a1b11e55bc0c6c6faf4094",
+    "sequence 2": "9f497380710d4c12511be5625ef57716af53a0f0abf01cd06e30161ec2c223e4",
+    "sequence 4": "2302a893e21f076f50abd462a770ff26bddd0c64c2682551e8781022b7cdf349",
+    "sequence 7": "79858ec1f9d6444674f0cff639b8cd1981d45ea76a3e3b22245e622fc020b06e",
+    "sequence 13": "ddcf9336406082fc0029a62ef7f7416845bb3ed251d12ebedf2b8101e49d8299",
+    "sequence 14": "c85f8c89f48063b00c14a2c1f34eed78476758a133875bffbfd50f552aceb92d",
+    "sequence 16": "c37d233190dd0afc3d61ccdc5ef82296e58f6da6a05155363865c9a4be91527c",
+    "sequence 17": "27dc56f1b389e30f99ce94b90395593614b3cb582472c7249e99cfce09f9c1eb",
+    "sequence 19": "20f461c0a8d63da936e94800bd4bf62af5b98bd2ff8f75f80703e39c2360c1a0",
+    "sequence 20": "1d76601c6dcd4ae2bd0ab2f70e0be375f7d87b74c7a1b11e55bc0c6c6faf4094",
+    "sequence 1110 after request 1": "ce26836c9933536f53fa3d4f81b2f7828f5057ed4295ae5c4fe01a4f3cb715ca",
+    "sequence 1125 after request 1": "2b9cdf299af0d3644eb02ab0e14abd12fe579182d1ab38065d384878030b8463",
+    "sequence 1022 after request 1": "d5d1cf0d64209e98905d757f00eec257b237e92a5658e78074b25a5b842cc06d",
 }
-NAME = b"sequence "
 
 
 def from_files(names):
-    """The chosen sequences of the files; of two with one seed the first."""
+    """The chosen sequences of the files; of two with one name the first."""
     found = {}
     for name in names:
         with open(name, encoding="ascii") as f:
             for lines in parted(map(json.loads, f)):
-                found.setdefault(lines[0]["seed"], lines)
-    for seed in CHOSEN:
-        sequence(seed, found[seed])
+                found.setdefault(named(lines[0]), lines)
+    for name in CHOSEN:
+        sequence(name, found[name])
+
+
+def named(first):
+    """The name of a sequence by its first line: its seed, and the request after which it is to be made."""
+    return "sequence %d" % first["seed"] + (" after request %d" % first["stage"] if first["stage"] else "")
 
 
 def parted(lines):
@@ -798,16 +1051,16 @@ def parted(lines):
             held = []
 
 
-def sequence(seed, lines):
+def sequence(name, lines):
     """One sequence: its store, its events, the store at its end."""
     store = base64.b64decode(lines[0]["store"])
     hold(len(store), STORE)
-    begin("sequence %d" % seed)
+    begin(name)
     corrupt(0, store)
     for line in lines[1:-1]:
         event(line)
-    hold(lines[-1]["end"], CHOSEN[seed])
-    end(seed)
+    hold(lines[-1]["end"], CHOSEN[name])
+    end(name)
 
 
 def event(line):
@@ -815,30 +1068,30 @@ def event(line):
     if "damage" in line:
         corrupt(line["damage"], bytes.fromhex(line["bytes"]))
         return
-    letter = {"view": "V", "insert": "I", "update": "U", "delete": "D"}[line["call"]]
+    letter = {"view": "V", "xml": "M", "insert": "I", "update": "U", "delete": "D"}[line["call"]]
     where, value = bytes.fromhex(line["path"]), bytes.fromhex(line.get("value", ""))
-    third = line.get("outlen", 0) if letter == "V" else line.get("kind", 0)
+    third = line.get("outlen", 0) if letter in "VM" else line.get("kind", 0)
     given = record(letter, where, value, line["subject"], third, STORE)
     hold(given, (line["number"], line["count"], bytes.fromhex(line["written"])))
 
 
-def end(seed):
+def end(name):
     """The end of a sequence: its store is the one that its file gives, and is shown."""
-    hold(hashlib.sha256(buffer[:STORE]).hexdigest(), CHOSEN[seed])
+    hold(hashlib.sha256(buffer[:STORE]).hexdigest(), CHOSEN[name])
     show()
 
 
 def from_records(stdin):
     """The sequences that stand in stdin, record by record from the first one on."""
-    at = stdin.index(NAME) - 16
+    at = stdin.index(b"sequence ") - 16
     while at < len(stdin):
         letter, m, n = chr(stdin[at]), stdin[at + 1], stdin[at + 2]
         size, subject, third = struct.unpack("<III", stdin[at + 4 : at + 16])
         first, second = stdin[at + 16 : at + 16 + m], stdin[at + 16 + m : at + 16 + m + n]
         if letter == "N":
-            seed = int(first[len(NAME) :])
+            name = first.decode().rstrip("\n")
         if letter == "S":
-            end(seed)
+            end(name)
         else:
             record(letter, first, second, subject, third, size)
         at += 16 + m + n
@@ -861,7 +1114,8 @@ def write(name, raw):
 
 
 # the numbers that each call can answer: all of them are among the cases
-NUMBERS = {"V": {0, 1, 2, 3, 4, 7, 10}, "I": set(range(10)), "U": set(range(8)), "D": {0, 1, 2, 3, 4, 6, 7}}
+VIEWS = {0, 1, 2, 3, 4, 7, 10}
+NUMBERS = {"V": VIEWS, "M": VIEWS, "I": set(range(10)), "U": set(range(8)), "D": {0, 1, 2, 3, 4, 6, 7}}
 
 
 def main(words):

@@ -1,7 +1,8 @@
-"""Document 01 as a Python program, written from the document alone: the reference that expected output comes from.
+"""Documents 01 and 02 as a Python program, written from the documents alone: the reference that expected output comes from.
 
-It holds labels, paths, values, the bytes of slots, partitions and stores, what is in view and how it is listed, and the four
-calls on a model of the store. It shares no code with the crates, and runs by no part of them.
+It holds labels, paths, values, the bytes of slots, partitions and stores, what is in view, how it is listed and how it is written
+as XML, and the five calls on a model of the store: the four of document 01, and the view as XML of document 02's request 1/14.
+It shares no code with the crates, and runs by no part of them.
 """
 import struct
 
@@ -88,18 +89,39 @@ def partition_bytes(elements):
     return (bytes([len(elements), 0, 0, 0]) + slots).ljust(PARTITION, b"\0")
 
 
-def line(path, content):
-    """A line of a listing: the path's last step, then its kind and value, or None where the element is removed."""
-    name, label = path[-1]
-    text = b"%d\t%d\t%d\t" % (len(path), name, label)
+def printed(content):
+    """An element's kind as a letter and its value as text; its content is None where it is removed, else its kind and value."""
     if content is None:
-        return text + b"R\t-\t-\n"
+        return b"-", b""
     kind, value = content
     if kind == 0:
-        return text + b"P\tG\t-\n"
+        return b"G", b""
     if kind == 1:
-        return text + b"P\tM\t%d\n" % struct.unpack("<i", value)
-    return text + b"P\tT\t" + value + b"\n"
+        return b"M", b"%d" % struct.unpack("<i", value)
+    return b"T", value
+
+
+def line(path, content):
+    """A line of a listing: depth, name, label, mark, kind and value."""
+    name, label = path[-1]
+    mark = b"R" if content is None else b"P"
+    letter, value = printed(content)
+    return b"%d\t%d\t%d\t%s\t%s\t%s\n" % (len(path), name, label, mark, letter, value or b"-")
+
+
+def escaped(text):
+    """A text in XML: the characters &, < and > are written otherwise."""
+    return text.replace(b"&", b"&amp;").replace(b"<", b"&lt;").replace(b">", b"&gt;")
+
+
+def element(path, contents):
+    """An element in XML: its tag, its value, the elements one step below it in path order, its end tag."""
+    name, label = path[-1]
+    preserve = b"REMOVED" if contents[path] is None else b"PRESENT"
+    letter, value = printed(contents[path])
+    below = b"".join(element(p, contents) for p in sorted(contents) if p[:-1] == path)
+    tag = b'<e%d label="%d" preserve="%s" kind="%s">' % (name, label, preserve, letter)
+    return tag + escaped(value) + below + b"</e%d>" % name
 
 
 class Model:
@@ -132,11 +154,20 @@ class Model:
         """Whether the element is in the set of its label."""
         return path in self.parts[path[-1][1]]
 
+    def listed(self, subject, path):
+        """What a view of the path lists: each path with its kind and value, or with None where the element is removed."""
+        return {p: self.parts[p[-1][1]].get(p) for p in self.in_view(subject) if p[: len(path)] == path}
+
     def listing(self, subject, path):
         """The printed view."""
-        listed = sorted(p for p in self.in_view(subject) if p[: len(path)] == path)
-        lines = [line(p, self.parts[p[-1][1]].get(p)) for p in listed]
-        return b"VIEW\t%d\t%d\n" % (subject, len(listed)) + b"".join(lines)
+        listed = self.listed(subject, path)
+        return b"VIEW\t%d\t%d\n" % (subject, len(listed)) + b"".join(line(p, listed[p]) for p in sorted(listed))
+
+    def xml(self, subject, path):
+        """The view as XML: in the dossier tag the path's own element, or for the empty path the elements of one step."""
+        listed = self.listed(subject, path)
+        top = sorted(p for p in listed if p == path or len(p) == 1)
+        return b'<dossier subject="%d">%s</dossier>' % (subject, b"".join(element(p, listed) for p in top))
 
     def refusal(self, op, subject, raw, kind, value):
         """The number of the first of the causes 1 to 9 that applies, else 0; and the path."""
@@ -147,13 +178,13 @@ class Model:
         if any(isinstance(self.parts[n], bytes) for n in range(32) if dominates(subject, n)):
             return 3, None
         path = read_path(raw)
-        if path is None or (path == () and op != "V"):
+        if path is None or (path == () and op not in "VM"):
             return 4, None
         if op in "IU" and not good_value(kind, value):
             return 5, path
         if op in "IUD" and path[-1][1] != subject:
             return 6, path
-        if op == "V" and path != () and path not in self.in_view(subject):
+        if op in "VM" and path != () and path not in self.in_view(subject):
             return 7, path
         if op == "I" and path[:-1] != () and path[:-1] not in self.in_view(subject):
             return 7, path
@@ -166,12 +197,12 @@ class Model:
         return 0, path
 
     def call(self, op, subject, raw, kind=0, value=b"", room=0):
-        """A call: its number, its count and what it writes."""
+        """A call, V, M (the view as XML), I, U or D: its number, its count and what it writes."""
         number, path = self.refusal(op, subject, raw, kind, value)
         if number != 0:
             return number, 0, b""
-        if op == "V":
-            text = self.listing(subject, path)
+        if op in "VM":
+            text = self.listing(subject, path) if op == "V" else self.xml(subject, path)
             return (10, 0, b"") if room < len(text) else (0, len(text), text)
         own = self.parts[subject]
         gone = [p for p in own if op in "UD" and p[: len(path)] == path]

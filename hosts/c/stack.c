@@ -1,5 +1,6 @@
-/* Measures the stack that the calls take, on the longest listing known: each label has 32 elements, each of six steps, and those
- * above it are removed wherever the label dominates another. The last line is 'N passed, N failed'. */
+/* Measures the stack that the calls take, on the longest listing and the longest XML known: each label has 32 elements, each of
+ * six steps, and those above it are removed wherever the label dominates another; each text is all & characters. The last line is
+ * 'N passed, N failed'. */
 #define _XOPEN_SOURCE 700
 #include "dossier.h"
 
@@ -8,14 +9,15 @@
 #include <stdlib.h>
 #include <string.h>
 
-/* The stack of a measured call, what it is filled with, and what the header says that a view and another call take. */
-enum { STACK = 65536, FILL = 0xa5, VIEW_MOST = 6 * 1024, OTHER_MOST = 1024 };
+/* The stack of a measured call, what it is filled with, and what the header says that a view, one as XML and another call
+ * take. */
+enum { STACK = 65536, FILL = 0xa5, VIEW_MOST = 6 * 1024, XML_MOST = 8 * 1024, OTHER_MOST = 1024 };
 
-/* The bytes of the longest listing known, and the elements of each label. */
-enum { LONGEST = 114861, EACH = 32, LABELS = 32, STEP = 3, ABOVE = 5 };
+/* The bytes of the longest listing and of the longest XML known, and the elements of each label. */
+enum { LONGEST = 114861, LONGEST_XML = 414816, EACH = 32, LABELS = 32, STEP = 3, ABOVE = 5 };
 
 static uint8_t store[DOSSIER_STORE_BYTES];
-static uint8_t output[DOSSIER_LISTING_BYTES_MAX];
+static uint8_t output[DOSSIER_XML_BYTES_MAX];
 static _Alignas(4096) uint8_t stack[STACK];
 
 /* A path that is in the store, and what the last call answered. */
@@ -64,7 +66,7 @@ static void put_step(size_t at, int name, int label)
 /* Inserts an element of the label with removed ones above it, where it dominates another label. */
 static int insert_below(int label, int name)
 {
-    static const uint8_t text[] = {'S', 'L', 'E', 'E', 'V', 'E', ' ', 'L', 'E', 'F', 'T', ' ', 'C', 'U', 'F', 'F'};
+    static const uint8_t text[] = {'&', '&', '&', '&', '&', '&', '&', '&', '&', '&', '&', '&', '&', '&', '&', '&'};
     int other = below(label);
     size_t above = other < 0 ? 0 : ABOVE;
     int done = 1;
@@ -95,7 +97,8 @@ static int fill(void)
     return done;
 }
 
-/* The calls that are measured: none, for what a thread takes itself, a view of all, an update, a delete and an insert. */
+/* The calls that are measured: none, for what a thread takes itself, a view of all, one as XML, an update, a delete and an
+ * insert. */
 static void *no_call(void *unused)
 {
     return unused;
@@ -104,6 +107,12 @@ static void *no_call(void *unused)
 static void *call_view(void *unused)
 {
     answer = dossier_view(store, sizeof store, 31, path, 0, output, sizeof output);
+    return unused;
+}
+
+static void *call_view_xml(void *unused)
+{
+    answer = dossier_view_xml(store, sizeof store, 31, path, 0, output, sizeof output);
     return unused;
 }
 
@@ -157,6 +166,8 @@ int main(void)
     size_t base = used(no_call);
     measure("view", call_view, base, VIEW_MOST);
     check("the longest listing known", answer.count == LONGEST);
+    measure("view as XML", call_view_xml, base, XML_MOST);
+    check("the longest XML known", answer.count == LONGEST_XML);
     put_step(0, 10000 + EACH * LABELS - 1, 0);
     measure("update", call_update, base, OTHER_MOST);
     measure("delete", call_delete, base, OTHER_MOST);

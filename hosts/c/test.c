@@ -1,4 +1,4 @@
-/* Tests the C declarations: answers, listings, and what a refusal leaves untouched. The last line is 'N passed, N failed'. */
+/* Tests the C declarations: answers, listings, XML and what refusals leave untouched. The last line is 'N passed, N failed'. */
 #include "dossier.h"
 
 #include <stdio.h>
@@ -13,18 +13,22 @@ enum { FILL = 0xa5 };
 /* The store, with one byte behind it so that a longer one can be lent; a copy of it; an output. */
 static uint8_t store[DOSSIER_STORE_BYTES + 1];
 static uint8_t kept[DOSSIER_STORE_BYTES + 1];
-static uint8_t output[256];
+static uint8_t output[512];
 
 /* How many checks held and how many did not. */
 static int passed, failed;
 
-/* Paths: the root, 10:0, below it 20:16 and 30:0, 40:0 below 30:0, and 10:16. */
+/* Paths: the root, 10:0, below it 20:16, 7:0 and 30:0, 5:16 below 20:16, 40:0 below 30:0, 10:16, 11:16 and 9:0. */
 static const uint8_t none[1];
 static const uint8_t p10[] = {10, 0, 0};
 static const uint8_t p10_20[] = {10, 0, 0, 20, 0, 16};
+static const uint8_t p10_20_5[] = {10, 0, 0, 20, 0, 16, 5, 0, 16};
+static const uint8_t p10_7[] = {10, 0, 0, 7, 0, 0};
 static const uint8_t p10_30[] = {10, 0, 0, 30, 0, 0};
 static const uint8_t p10_30_40[] = {10, 0, 0, 30, 0, 0, 40, 0, 0};
 static const uint8_t p10_16[] = {10, 0, 16};
+static const uint8_t p11_16[] = {11, 0, 16};
+static const uint8_t p9[] = {9, 0, 0};
 
 /* -150 as a measure. */
 static const uint8_t measure[] = {0x6a, 0xff, 0xff, 0xff};
@@ -83,6 +87,11 @@ static void refused(const char *name, struct dossier_answer answer, uint32_t num
 static struct dossier_answer view(uint32_t subject, const uint8_t *path, size_t length, size_t room)
 {
     return dossier_view(store, DOSSIER_STORE_BYTES, subject, path, length, output, room);
+}
+
+static struct dossier_answer view_xml(uint32_t subject, const uint8_t *path, size_t length, size_t room)
+{
+    return dossier_view_xml(store, DOSSIER_STORE_BYTES, subject, path, length, output, room);
 }
 
 static struct dossier_answer insert(uint32_t subject, const uint8_t *path, size_t length, uint32_t kind, const uint8_t *value,
@@ -148,6 +157,48 @@ static void test_again(void)
     check("their listing", memcmp(output, seen, sizeof seen - 1) == 0 && is_untouched_from(sizeof seen - 1));
 }
 
+/* The XML of a view, and of 5:16, of 10:0 with what is below it and of 11:16 in the worked examples. */
+#define XML(subject, elements) "<dossier subject=\"" subject "\">" elements "</dossier>"
+#define E5 "<e5 label=\"16\" preserve=\"PRESENT\" kind=\"T\">a&lt;b &amp; \"c\"&gt;d</e5>"
+#define E20 "<e20 label=\"16\" preserve=\"PRESENT\" kind=\"M\">-150" E5 "</e20>"
+#define E10 "<e10 label=\"0\" preserve=\"REMOVED\" kind=\"-\">" E20 "</e10>"
+#define E11 "<e11 label=\"16\" preserve=\"PRESENT\" kind=\"T\">&amp;</e11>"
+
+/* A view has this XML: an output of its length suffices, one byte less does not. */
+static void is_xml(uint32_t subject, const uint8_t *path, size_t length, size_t bytes, const char *xml)
+{
+    memset(output, FILL, sizeof output);
+    refused(xml, view_xml(subject, path, length, bytes - 1), DOSSIER_REFUSED_OUTPUT_SHORT);
+    refused(xml, view_xml(subject, path, length, 0), DOSSIER_REFUSED_OUTPUT_SHORT);
+    done(xml, view_xml(subject, path, length, bytes), bytes);
+    check(xml, strlen(xml) == bytes && memcmp(output, xml, bytes) == 0 && is_untouched_from(bytes));
+    memset(output, FILL, sizeof output);
+    done(xml, view_xml(subject, path, length, sizeof output), bytes);
+    check(xml, memcmp(output, xml, bytes) == 0 && is_untouched_from(bytes));
+}
+
+/* The worked examples of XML: removed, nested and escaped. */
+static void test_xml(void)
+{
+    start();
+    done("insert 10:0", insert_group(0, LENT(p10)), 0);
+    done("insert 10:0/20:16", insert(16, LENT(p10_20), DOSSIER_KIND_MEASURE, LENT(measure)), 0);
+    done("insert 10:0/20:16/5:16", insert(16, LENT(p10_20_5), DOSSIER_KIND_TEXT, (const uint8_t *)"a<b & \"c\">d", 11), 0);
+    done("insert 11:16", insert(16, LENT(p11_16), DOSSIER_KIND_TEXT, (const uint8_t *)"&", 1), 0);
+    done("insert 10:0/7:0", insert(0, LENT(p10_7), DOSSIER_KIND_TEXT, (const uint8_t *)"SLEEVE", 6), 0);
+    done("delete 10:0", delete(0, LENT(p10)), 2);
+    keep();
+    is_xml(0, none, 0, 31, XML("0", ""));
+    is_xml(16, none, 0, 259, XML("16", E10 E11));
+    is_xml(16, LENT(p10), 204, XML("16", E10));
+    is_xml(16, LENT(p10_20_5), 101, XML("16", E5));
+    is_xml(16, LENT(p11_16), 87, XML("16", E11));
+    is_xml(8, none, 0, 31, XML("8", ""));
+    memset(output, FILL, sizeof output);
+    refused("9:0 is not there", view_xml(16, LENT(p9), sizeof output), DOSSIER_REFUSED_ABSENT);
+    check("a view as XML leaves the store", memcmp(store, kept, sizeof store) == 0);
+}
+
 /* What an update and a delete count. */
 static void test_counts(void)
 {
@@ -171,6 +222,7 @@ static void test_store_length(void)
     for (size_t at = 0; at < sizeof lengths / sizeof *lengths; at++) {
         size_t length = lengths[at];
         refused("view: length", dossier_view(store, length, 40, LENT(p10), output, sizeof output), 1);
+        refused("view as XML: length", dossier_view_xml(store, length, 40, LENT(p10), output, sizeof output), 1);
         refused("insert: length", dossier_insert(store, length, 0, LENT(p10), 0, none, 0), 1);
         refused("update: length", dossier_update(store, length, 0, LENT(p10), 0, none, 0), 1);
         refused("delete: length", dossier_delete(store, length, 0, LENT(p10)), 1);
@@ -185,6 +237,7 @@ static void test_subject(void)
     keep();
     for (size_t at = 0; at < sizeof subjects / sizeof *subjects; at++) {
         refused("view: subject", view(subjects[at], none, 0, sizeof output), 2);
+        refused("view as XML: subject", view_xml(subjects[at], none, 0, sizeof output), 2);
         refused("insert: subject", insert_group(subjects[at], LENT(p10)), 2);
         refused("update: subject", update(subjects[at], LENT(p10), 0, none, 0), 2);
         refused("delete: subject", delete(subjects[at], LENT(p10)), 2);
@@ -198,6 +251,7 @@ static void test_not_well_formed(void)
     store[16 * DOSSIER_PARTITION_BYTES] = 33;
     keep();
     refused("view: partition 16", view(16, none, 0, sizeof output), 3);
+    refused("view as XML: partition 16", view_xml(20, none, 0, sizeof output), 3);
     refused("insert: partition 16", insert_group(31, LENT(p10)), 3);
     refused("update: partition 16", update(24, LENT(p10), 0, none, 0), 3);
     refused("delete: partition 16", delete(17, LENT(p10)), 3);
@@ -214,6 +268,8 @@ static void test_path(void)
     start();
     keep();
     refused("name 0", view(0, LENT(name_0), sizeof output), 4);
+    refused("name 0, as XML", view_xml(0, LENT(name_0), sizeof output), 4);
+    refused("seven steps, as XML", view_xml(0, LENT(seven), sizeof output), 4);
     refused("label 32", insert_group(0, LENT(label_32)), 4);
     refused("labels not rising", insert_group(9, LENT(falling)), 4);
     refused("two bytes", delete(0, p10, 2), 4);
@@ -246,6 +302,7 @@ static void test_place(void)
     start();
     keep();
     refused("7, view", view(0, LENT(p10), sizeof output), 7);
+    refused("7, view as XML", view_xml(0, LENT(p10), sizeof output), 7);
     refused("7, insert", insert_group(0, LENT(p10_30)), 7);
     refused("7, update", update(0, LENT(p10), 0, none, 0), 7);
     refused("7, delete", delete(0, LENT(p10)), 7);
@@ -256,6 +313,7 @@ static void test_place(void)
     refused("6, update", update(16, LENT(p10), 0, none, 0), 6);
     refused("6, delete", delete(16, LENT(p10)), 6);
     refused("7, a version above", view(0, LENT(p10_16), sizeof output), 7);
+    refused("7, a version above, as XML", view_xml(0, LENT(p10_16), sizeof output), 7);
     refused("8", insert_group(0, LENT(p10)), 8);
 }
 
@@ -290,6 +348,7 @@ int main(void)
     test_answer();
     test_example();
     test_again();
+    test_xml();
     test_counts();
     test_store_length();
     test_subject();

@@ -1,4 +1,4 @@
-"""The calls through the module: document 01's example, every refusal, and what is left untouched.
+"""The calls through the module: document 01's example, every refusal, what is left untouched, and XML read back.
 
     python3 hosts/python/test_dossier.py
 """
@@ -7,6 +7,7 @@ import doctest
 import multiprocessing
 import pickle
 import unittest
+import xml.etree.ElementTree
 from decimal import Decimal
 from fractions import Fraction
 
@@ -14,6 +15,7 @@ import dossier
 from dossier import raw
 from dossier import Answer, Compartment, Group, Kind, Label, Level, Line, Measure, Refusal, Refused, Step, Store, Text
 from dossier import UnexpectedAnswer, Unreadable, View
+from dossier.listing import read_xml
 
 # What every output holds before a call.
 FILL = 0xA5
@@ -53,6 +55,34 @@ def example(buffer=None):
     return store
 
 
+def worked():
+    """The store of the worked examples of XML: 10:0 and below it 7:0 and 20:16, 5:16 below 20:16, and 11:16; 0 deletes 10:0."""
+    store = Store()
+    store.insert(label(0), path((10, 0)), Group())
+    store.insert(label(16), path((10, 0), (20, 16)), Measure(-150))
+    store.insert(label(16), path((10, 0), (20, 16), (5, 16)), Text('a<b & "c">d'))
+    store.insert(label(16), path((11, 16)), Text("&"))
+    store.insert(label(0), path((10, 0), (7, 0)), Text("SLEEVE"))
+    store.delete(label(0), path((10, 0)))
+    return store
+
+
+def mixed():
+    """A store with every character in texts, versions of one name, and six steps of which the first four are removed."""
+    store = worked()
+    characters = "".join(map(chr, range(32, 127)))
+    for at in range(0, len(characters), 16):
+        store.insert(label(0), path((1 + at, 0)), Text(characters[at : at + 16]))
+    for number in range(32):
+        store.insert(label(number), path((7, number)), Measure(number - 2**31))
+    deep = [(65535, 0), (65534, 0), (3, 8), (4, 8), (5, 24), (6, 31)]
+    for depth, (_, number) in enumerate(deep, 1):
+        store.insert(label(number), path(*deep[:depth]), Text("&<>&<>&<>&<>&<>&"))
+    store.delete(label(0), path(*deep[:1]))
+    store.delete(label(8), path(*deep[:3]))
+    return store
+
+
 def output(length=64):
     """An output full of FILL."""
     return bytearray([FILL]) * length
@@ -89,13 +119,14 @@ class CallTest(unittest.TestCase):
         self.assertEqual(bytes(store), before)
 
     def assert_view_refused(self, number, store, subject, path, room=64):
-        """A view is refused by a number and leaves the store and the output."""
-        space = output(room)
-        self.assert_refused(number, raw.view, store, subject, path, space)
-        self.assertEqual(space, output(room))
+        """A view, as lines and as XML, is refused by a number and leaves the store and the output."""
+        for call in raw.view, raw.view_xml:
+            space = output(room)
+            self.assert_refused(number, call, store, subject, path, space)
+            self.assertEqual(space, output(room))
 
     def assert_all_refused(self, number, store, subject, path):
-        """Each of the four calls is refused by a number."""
+        """Each call is refused by a number."""
         self.assert_view_refused(number, store, subject, path)
         self.assert_writers_refused(number, store, subject, path)
 
@@ -168,6 +199,82 @@ class Done(CallTest):
         self.assertEqual([line.value for line in view], [Measure(-(2**31))])
 
 
+class Xml(CallTest):
+    """Views as XML."""
+
+    def assert_xml(self, store, subject, steps, elements, length):
+        """A view has these elements and this length; an output of that length is enough, and one byte less is not."""
+        expected = f'<dossier subject="{subject}">{elements}</dossier>'
+        self.assertEqual(len(expected), length)
+        self.assertEqual(store.view_xml(label(subject), path(*steps)), expected)
+        space = output(length + 9)
+        self.assertEqual(store.view_xml(label(subject), path(*steps), space), expected)
+        self.assertEqual(space, expected.encode() + output(9))
+        self.assertEqual(store.view_xml(label(subject), path(*steps), output(length)), expected)
+        space = output(length - 1)
+        self.assert_raises_refusal(Refusal.OUTPUT_SHORT, store.view_xml, label(subject), path(*steps), space)
+        self.assertEqual(space, output(length - 1))
+
+    def test_worked_examples(self):
+        store = worked()
+        before = bytes(store.buffer)
+        e5 = '<e5 label="16" preserve="PRESENT" kind="T">a&lt;b &amp; "c"&gt;d</e5>'
+        e20 = f'<e20 label="16" preserve="PRESENT" kind="M">-150{e5}</e20>'
+        e10 = f'<e10 label="0" preserve="REMOVED" kind="-">{e20}</e10>'
+        e11 = '<e11 label="16" preserve="PRESENT" kind="T">&amp;</e11>'
+        self.assert_xml(store, 0, [], "", 31)
+        self.assert_xml(store, 16, [], e10 + e11, 259)
+        self.assert_xml(store, 16, [(10, 0)], e10, 204)
+        self.assert_xml(store, 16, [(10, 0), (20, 16), (5, 16)], e5, 101)
+        self.assert_xml(store, 16, [(11, 16)], e11, 87)
+        self.assert_xml(store, 8, [], "", 31)
+        self.assert_raises_refusal(Refusal.ABSENT, store.view_xml, label(16), path((9, 0)))
+        self.assertEqual(bytes(store.buffer), before)
+
+    def value(self, preserve, kind, text):
+        """The value of a live element that was parsed, None for a removed one."""
+        if (preserve, kind) == ("PRESENT", "M"):
+            return Measure(int(text))
+        if (preserve, kind) == ("PRESENT", "T"):
+            return Text(text)
+        self.assertIsNone(text)
+        self.assertIn((preserve, kind), [("PRESENT", "G"), ("REMOVED", "-")])
+        return Group() if kind == "G" else None
+
+    def elements(self, inside, depth):
+        """The elements inside one that was parsed, in their order, as lines; no text stands behind an element."""
+        for element in inside:
+            self.assertEqual((list(element.attrib), element.tail), (["label", "preserve", "kind"], None))
+            number, preserve, kind = element.attrib.values()
+            value = self.value(preserve, kind, element.text)
+            live = value is not None
+            yield Line(depth, int(element.tag[1:]), label(int(number)), live, value.kind if live else None, value)
+            yield from self.elements(element, depth + 1)
+
+    def assert_read_back(self, store, subject, *steps):
+        """A view's XML, parsed, has the elements of its listing."""
+        parsed = xml.etree.ElementTree.fromstring(store.view_xml(label(subject), path(*steps)))
+        self.assertEqual((parsed.tag, parsed.attrib, parsed.text), ("dossier", {"subject": str(subject)}, None))
+        lines = list(store.view(label(subject), path(*steps)))
+        self.assertEqual(list(self.elements(parsed, max(len(steps), 1))), lines)
+        return len(lines)
+
+    def test_read_back(self):
+        store = mixed()
+        for subject in range(32):
+            self.assertGreaterEqual(self.assert_read_back(store, subject), 7)
+        self.assertEqual(self.assert_read_back(store, 31, (65535, 0)), 6)
+        self.assertEqual(self.assert_read_back(store, 31, (65535, 0), (65534, 0), (3, 8)), 4)
+        self.assertEqual(self.assert_read_back(store, 24, (65535, 0), (65534, 0), (3, 8), (4, 8)), 2)
+        self.assertEqual(self.assert_read_back(store, 31, (7, 31)), 1)
+        self.assertEqual(self.assert_read_back(Store(), 31), 0)
+
+    def test_view_of_bytes(self):
+        space = output(40)
+        self.assertEqual(raw.view_xml(bytes(example().buffer), 0, b"", space), Answer(0, 31))
+        self.assertEqual(space, b'<dossier subject="0"></dossier>' + output(9))
+
+
 class Refusals(CallTest):
     """Refusals 1 to 10, on the numbers as they are."""
 
@@ -176,6 +283,7 @@ class Refusals(CallTest):
             store = bytearray(length)
             self.assert_all_refused(1, store, 40, P10)
             self.assert_raises_refusal(Refusal.STORE_LENGTH, Store(store).view, label(0))
+            self.assert_raises_refusal(Refusal.STORE_LENGTH, Store(store).view_xml, label(0))
             self.assert_raises_refusal(Refusal.STORE_LENGTH, Store(store).insert, label(0), path((10, 0)), Group())
             self.assert_raises_refusal(Refusal.STORE_LENGTH, Store(store).update, label(0), path((10, 0)), Group())
             self.assert_raises_refusal(Refusal.STORE_LENGTH, Store(store).delete, label(0), path((10, 0)))
@@ -191,7 +299,9 @@ class Refusals(CallTest):
         for subject in 16, 17, 24, 31:
             self.assert_all_refused(3, store.buffer, subject, P10)
         self.assertEqual(store.view(label(15)).listing, b"VIEW\t15\t0\n")
+        self.assertEqual(store.view_xml(label(15)), '<dossier subject="15"></dossier>')
         self.assert_raises_refusal(Refusal.NOT_WELL_FORMED, store.view, label(16))
+        self.assert_raises_refusal(Refusal.NOT_WELL_FORMED, store.view_xml, label(16))
 
     def test_4_what_is_no_path(self):
         store = Store()
@@ -245,6 +355,7 @@ class Wrapper(CallTest):
         for number in 2**32, 2**32 + 16, 2**64, -1:
             for call, arguments in (
                 (raw.view, (number, P10, output())),
+                (raw.view_xml, (number, P10, output())),
                 (raw.insert, (number, P10, *GROUP)),
                 (raw.insert, (0, P10, number, b"")),
                 (raw.update, (number, P10, *GROUP)),
@@ -267,6 +378,7 @@ class Wrapper(CallTest):
         before = bytes(store)
         inside = memoryview(store)
         self.assertRaises(ValueError, raw.view, store, 16, b"", inside[:64])
+        self.assertRaises(ValueError, raw.view_xml, store, 16, b"", inside[:64])
         self.assertRaises(ValueError, raw.insert, store, 0, inside[4:7], *GROUP)
         self.assertRaises(ValueError, raw.update, store, 0, P10, 1, inside[-4:])
         self.assertRaises(ValueError, raw.delete, store, 0, inside[4:7])
@@ -281,6 +393,7 @@ class Wrapper(CallTest):
     def test_store_that_cannot_be_written(self):
         self.assertRaises(TypeError, raw.insert, bytes(raw.STORE_BYTES), 0, P10, *GROUP)
         self.assertRaises(TypeError, raw.view, Store().buffer, 0, b"", bytes(64))
+        self.assertRaises(TypeError, raw.view_xml, Store().buffer, 0, b"", bytes(64))
 
     def test_labels(self):
         self.assertEqual(Label(Level.HOUSE, Compartment.SIZING | Compartment.FABRIC), label(19))
@@ -304,6 +417,7 @@ class Wrapper(CallTest):
         for line in lines + ["1\t10\t0\tP\tG\t-\t7", "1\t10\t0\tQ\tG\t-"]:
             self.assertRaises(Unreadable, list, View(f"VIEW\t0\t1\n{line}\n".encode()))
         self.assertRaises(Unreadable, list, View(b"VIEW\t0\t1\n1\t10\t0\tP\tG\t-"))
+        self.assertRaises(Unreadable, read_xml, b"<dossier \xff")
 
 
 class WholeNumbers(CallTest):
@@ -325,6 +439,7 @@ class WholeNumbers(CallTest):
         for number in NOT_WHOLE:
             steps = path((number, 0))
             self.assertRaises(TypeError, store.view, label(0), steps)
+            self.assertRaises(TypeError, store.view_xml, label(0), steps)
             self.assertRaises(TypeError, store.insert, label(0), steps, Group())
             self.assertRaises(TypeError, store.update, label(0), steps, Group())
             self.assertRaises(TypeError, store.delete, label(0), steps)
@@ -334,6 +449,7 @@ class WholeNumbers(CallTest):
         store = Store().buffer
         for number in NOT_WHOLE:
             self.assertRaises(TypeError, raw.view, store, number, P10, output())
+            self.assertRaises(TypeError, raw.view_xml, store, number, P10, output())
             self.assertRaises(TypeError, raw.insert, store, number, P10, *GROUP)
             self.assertRaises(TypeError, raw.insert, store, 0, P10, number, b"")
             self.assertRaises(TypeError, raw.update, store, number, P10, *GROUP)
@@ -345,6 +461,7 @@ class WholeNumbers(CallTest):
         for number in 7.5, 1.0, 64:
             self.assertRaises(TypeError, Store(number).view, label(0))
             self.assertRaises(TypeError, Store().view, label(0), (), number)
+            self.assertRaises(TypeError, Store().view_xml, label(0), (), number)
 
     def test_what_is_a_whole_number(self):
         self.assertEqual(Label(Index(2), Index(3)), label(19))

@@ -4,8 +4,8 @@ use crate::show;
 use libc::STDOUT_FILENO;
 ghost use Prim.Native.Nat.{_≤_};
 
-// One record, by its first byte: the calls have the letters of the runner, N names the case by a line, Z clears the store, X corrupts it,
-// S shows it.
+// One record, by its first byte: the calls have the letters of the runner, and M is the view as XML; N names the case by a line, Z clears
+// the store, X corrupts it, S shows it.
 pub fn record(
     store: &mut [u8; 42372],
     output: &mut [u8; 65536],
@@ -15,6 +15,7 @@ pub fn record(
 ) {
     match head[0] {
         b'V' => view(store, output, head, first),
+        b'M' => markup(store, output, head, first),
         b'I' => insert(store, head, first, second),
         b'U' => update(store, head, first, second),
         b'D' => delete(store, head, first),
@@ -78,15 +79,43 @@ fn view(store: &[u8], output: &mut [u8], head: &[u8; 16], path: &[u8]) {
     );
 }
 
-// A view into an output of one byte throughout; of what the view did not write, every byte must be as it was.
+// A view into an output of one byte throughout.
 fn view_into(store: &[u8], subject: u32, path: &[u8], output: &mut [u8]) {
     fill(output, 170);
     let done = dossier::view(store, subject, path, output);
     show::answer(b"V", done.number, done.count);
-    let n = least(done.count, output.len());
+    show_written(output, done.count);
+}
+
+// A view as XML, into as many bytes of the output as the head says.
+fn markup(store: &[u8], output: &mut [u8], head: &[u8; 16], path: &[u8]) {
+    let size = fields::store_length(head, store.len());
+    let n = fields::output_length(head, output.len());
+    markup_into(
+        &store[0..size],
+        fields::subject(head),
+        path,
+        &mut output[0..n],
+    );
+}
+
+// A view as XML into an output of one byte throughout. XML that was written gets a line's end, since it has none of its own.
+fn markup_into(store: &[u8], subject: u32, path: &[u8], output: &mut [u8]) {
+    fill(output, 170);
+    let done = dossier_xml::view_xml(store, subject, path, output);
+    show::answer(b"M", done.number, done.count);
+    show_written(output, done.count);
+    if done.number == 0 {
+        show::text(b"\n");
+    }
+}
+
+// What a call wrote into an output of bytes 170; of what it did not write, every byte must be as it was.
+fn show_written(output: &[u8], count: usize) {
+    let n = least(count, output.len());
     io::write_all(STDOUT_FILENO, &output[0..n]);
     if !is_filled(&output[n..]) {
-        show::line(b"written behind the listing");
+        show::line(b"written behind what was counted");
     }
 }
 

@@ -6,8 +6,7 @@ use Prim.Native.Nat.{ℕ, zero, suc, _+_, _≤_, _<_}
 use native.Mathlib.Omega.{arith}
 use lib.ListN.{length, take, drop}
 use lib.Seq.{take-at, drop-at, length-take-le, drop-append-add}
-use lib.Dec.{T, leb}
-use mir.Facts.{yes-ltb, no-ltb, yes-leb, no-leb}
+use lib.Dec.{T}
 use Rattle.model.specs.Path.{stepsOf, key}
 use Rattle.model.specs.Value.{Content, allowed, bringable}
 use Rattle.model.specs.Element.{Element, contains, remove}
@@ -15,9 +14,8 @@ use Rattle.model.specs.Partition.{partitionSize, layout}
 use Rattle.model.specs.Store.{partitionStart, hasPartition, replace}
 use Rattle.model.specs.Model.{held, isHeld, elements, openCell, openModel, ownSet}
 use Rattle.model.specs.View.{listing}
-use Rattle.model.specs.Rows.{rowCode, goodPath, pathRows, bringRows, lookRows, ownLiveRows, placeRows, roomRows}
-use Rattle.model.specs.Call.{view, insert, update, delete, opRows, counted, changes, writes, extending, added, effect}
-use Rattle.model.proofs.Bools.{cond-yes, cond-no}
+use Rattle.model.specs.Rows.{rowCode, goodPath, pathRows, bringRows, ownLiveRows, placeRows}
+use Rattle.model.specs.Call.{view, insert, update, delete, opRows, counted, changes, extending, added, effect}
 use Rattle.model.proofs.Slots.{allowed-length}
 use Rattle.model.proofs.Partitions.{ValidSet, length-layout}
 use Rattle.model.proofs.Sets.{remove-valid, remove-fewer, remove-lacks}
@@ -29,43 +27,15 @@ use Rattle.model.proofs.Noninterference.{open-layout}
 use Rattle.path.proofs.Steps.{good-path}
 use Rattle.store.specs.Opened.{Opened, Vacant}
 use Rattle.table.proofs.Walking.{opened-own}
-use Rattle.listing.specs.Listed.{laidIn}
+use Rattle.table.proofs.Looking.{Looks}
 use Rattle.promise.specs.Did.{Acted}
 use Rattle.promise.proofs.Doing.{acted-refused, acted-done}
 
 -- ---- a view
 
-module _ (s : ℕ) (b p o : List ℕ) (f : Opened b s) {k : ℕ} (e : k ≡ rowCode (lookRows s (openModel b) p)) where
-  pub view-stops : (k ≡ 0 → ⊥) → Acted (view p (length o)) s b o (counted k 0) b o
-  unfolding opRows
-  view-stops h = acted-refused (view p (length o)) s b o (f .formed) (rows-stop (lookRows s (openModel b) p) _ e h) h
-
-  -- the listing was laid over the output if it fits
-  module _ (z : k ≡ 0) {n : ℕ} (m : n ≡ length (listing s (openModel b) (stepsOf p))) {x : List ℕ} (l : length x ≡ length o)
-      (g : x ≡ laidIn (listing s (openModel b) (stepsOf p)) o) where
-    text : List ℕ
-    text = listing s (openModel b) (stepsOf p)
-
-    looked : Passes (lookRows s (openModel b) p)
-    looked = rows-pass (lookRows s (openModel b) p) tt e z
-
-    pub view-short : length x < n → Acted (view p (length o)) s b o (counted 10 0) b x
-    unfolding laidIn opRows text
-    view-short h =
-        let w : length o < length text = omega arith in
-        let q : x ≡ o = g ∙ cond-no (leb (length text) (length o)) (text ++ drop (length text) o) o (no-leb w) in
-        rw q
-        (acted-refused (view p (length o)) s b o (f .formed) (rows-behind (lookRows s (openModel b) p) (roomRows (length o) text) looked (row-applies _ _ (yes-ltb w)))
-        (λ y. absurd (omega arith)))
-
-    pub view-done : n ≤ length x → Acted (view p (length o)) s b o (counted 0 n) b x
-    unfolding laidIn opRows effect writes text
-    view-done h =
-        let w : length text ≤ length o = omega arith in
-        rw m
-        (acted-done (view p (length o)) s b o (f .formed)
-        (passes-append (lookRows s (openModel b) p) (roomRows (length o) text) looked (no-ltb w, tt)) refl refl
-        (g ∙ cond-yes (leb (length text) (length o)) (text ++ drop (length text) o) o (yes-leb w)))
+pub view-looks : (s : ℕ) (b p o : List ℕ) → Looks (view p (length o)) s b p o (listing s (openModel b) (stepsOf p))
+unfolding opRows effect
+view-looks s b p o = record { rows = refl; does = refl }
 
 -- ---- what is brought
 

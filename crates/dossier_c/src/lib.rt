@@ -1,5 +1,5 @@
 // The calls as C functions. A slice is passed as a pointer and a length; the result is returned by value.
-ghost use Rattle.promise.specs.Did.{Viewed, Inserted, Updated, Deleted};
+ghost use Rattle.promise.specs.Did.{Viewed, Inserted, Updated, Deleted, ViewedXml};
 
 // What a call answers: 0 or the number of its refusal, and its count.
 #[repr(C)]
@@ -65,5 +65,22 @@ pub extern "C" fn dossier_delete(store: &mut [u8], subject: u32, path: &[u8]) ->
     Answer {
         number: gone.number,
         count: gone.count as u64,
+    }
+}
+
+// Writes the path and everything in the subject's view below it into the output as XML: how many bytes were written.
+#[no_mangle]
+pub extern "C" fn dossier_view_xml(
+    store: &[u8],
+    subject: u32,
+    path: &[u8],
+    output: &mut [u8],
+) -> Answer
+    ensures { λ r. ⌜ ViewedXml subject (now (path .entry)) (now (store .entry)) (now (output .entry)) (r .number) (r .count) (now (output .exit)) ⌝ }
+{
+    let done = dossier_xml::view_xml(store, subject, path, output);
+    Answer {
+        number: done.number,
+        count: done.count as u64,
     }
 }

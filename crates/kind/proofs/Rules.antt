@@ -90,7 +90,7 @@ letter-rule (suc (suc (suc k))) = refl
 
 -- ---- how a value is printed
 
-never : {X : Type 0} → false ≡ true → X
+pub never : {X : Type 0} → false ≡ true → X
 never e = absurd (subst T (sym e) tt)
 
 -- the rule of a number is that of a measure

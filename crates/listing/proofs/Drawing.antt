@@ -61,7 +61,7 @@ module _ {b : List ℕ} (used : Used b) where
 
 -- ---- the first steps of a slot's path
 
-last-step : (b : List ℕ) (d : ℕ) → d < depth b → lastStep (take (suc d) (readPath b)) ≡ some (stepAt b d)
+pub last-step : (b : List ℕ) (d : ℕ) → d < depth b → lastStep (take (suc d) (readPath b)) ≡ some (stepAt b d)
 unfolding readPath
 last-step b d h =
     let e : 0 + d ≡ d = omega arith in
@@ -76,12 +76,12 @@ unfolding lineOf pathLine
 path-line e p l t s = sym (rw (l, t, s) refl)
 
 -- no content stands at a path that is shorter
-content-shorter : (e : Element) (p : List Step) → length p < length (e .path) → contentAt (e ∷ []) p ≡ none
+pub content-shorter : (e : Element) (p : List Step) → length p < length (e .path) → contentAt (e ∷ []) p ≡ none
 content-shorter e p h =
     cond-no (samePath p (e .path)) (some (e .content)) none
     (not-T (samePath p (e .path)) (λ t. let k : length p ≡ length (e .path) = ap length (same-eq p (e .path) t) in omega arith))
 
-content-own : (e : Element) → contentAt (e ∷ []) (e .path) ≡ some (e .content)
+pub content-own : (e : Element) → contentAt (e ∷ []) (e .path) ≡ some (e .content)
 content-own e = cond-yes (samePath (e .path) (e .path)) (some (e .content)) none (same-refl (e .path))
 
 -- the line of the first d + 1 steps, by the numbers read
@@ -129,14 +129,14 @@ lines-last b d h =
 -- ---- how long they are
 
 -- the last of the first d + 1 of valid steps
-last-valid : (q : List Step) (d : ℕ) → d < length q → T (all validStep q)
-    → (a : Step) × (lastStep (take (suc d) q) ≡ some a) × Fits w32 (a .name) × Fits w32 (a .label)
+pub last-valid : (q : List Step) (d : ℕ) → d < length q → T (all validStep q)
+    → (a : Step) × (lastStep (take (suc d) q) ≡ some a) × (a .name ≤ 65535) × (a .label < 32)
 unfolding validStep
 last-valid [] d h t = absurd (omega arith)
 last-valid (a ∷ q) zero h t =
     let n : a .name ≤ 65535 = leb-yes (search (and-l, and-r)) in
     let l : a .label < 32 = label-lt (a .label) (search (and-l, and-r)) in
-    (a, refl, record { fits = omega arith }, record { fits = omega arith })
+    (a, refl, n, l)
 last-valid (a ∷ []) (suc d) h t = absurd (omega arith)
 last-valid (a ∷ b ∷ q) (suc d) h t = last-valid (b ∷ q) d (omega arith) (and-r (validStep a) (all validStep (b ∷ q)) t)
 
@@ -149,7 +149,7 @@ module _ (n : ℕ) (e : Element) (valid : T (validElement n e)) where
       let a = last-valid (e .path) d h (search (and-l, and-r)) in
       let k : Fits w32 (length p) = record { fits = omega (arith, length-take-le (suc d) (e .path) h, valid-fits n e valid .steps) } in
       let c : T (storable (e .content)) = search (and-l, and-r) in
-      subst (λ (l : List ℕ). length l ≤ 64) (path-line e p refl (a .1) refl) (line-short k (a .2) (a .3) (samePath p (e .path)) (e .content) c)
+      subst (λ (l : List ℕ). length l ≤ 64) (path-line e p refl (a .1) refl) (line-short k (record { fits = omega (arith, a .2) }) (record { fits = omega (arith, a .3) }) (samePath p (e .path)) (e .content) c)
 
   -- the lines of the prefixes with more than d steps, k of them
   pub lines-short : (k d : ℕ) → k ≡ length (e .path) - d → length (gather (pathLine (e ∷ [])) (drop d (prefixes (e .path)))) ≤ 64 * k

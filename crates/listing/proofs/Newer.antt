@@ -1,21 +1,20 @@
 -- What is new of a path after another: the prefixes beyond the steps that the two share.
 use mathlib.Core.Path.{_≡_, refl, sym, ap, subst, _∙_}
-use mathlib.Core.Logic.{_⊎_, inl, inr}
 use mathlib.Core.Bool.{Bool, true, false, not, cond, _&&_}
-use mathlib.Core.List.{List, [], _∷_, map, List·Memᴰ·cases-cons, List·Memᴰ·not-nil}
+use mathlib.Core.List.{List, [], _∷_, map}
 use Prim.Native.Nat.{ℕ, zero, suc, _-_, _≤_, _<_}
 use native.Mathlib.Omega.{arith}
 use lib.ListN.{length, take, drop, length-drop}
 use lib.Seq.{drop-nil}
 use lib.Dec.{T}
 use mir.Facts.{eqb-yes}
-use Rattle.model.specs.Lists.{keep, _∈_}
+use Rattle.model.specs.Lists.{keep}
 use Rattle.model.specs.Sets.{precedes}
 use Rattle.model.specs.Path.{Step, sameStep, isPrefix, prefixes, parent, key, pathRank}
-use Rattle.model.proofs.Bools.{and-r, decide, cond-yes, cond-no, is-true, is-false}
-use Rattle.model.proofs.Members.{map-in}
+use Rattle.model.proofs.Bools.{decide, cond-yes, cond-no, is-true, is-false}
 use Rattle.model.proofs.Order.{precedes-cancel}
-use Rattle.model.proofs.Paths.{step-eq, step-refl, prefix-trans, prefixes-in, key-keyed, prefix-first, parent-prefix}
+use Rattle.model.proofs.Paths.{step-eq, step-refl, key-keyed, prefix-first}
+use Rattle.model.proofs.Prefixes.{prefix-length, parent-above, parent-shorter}
 use Rattle.path.specs.Common.{common}
 use Rattle.path.proofs.Common.{common-prefix}
 use Rattle.listing.specs.Walk.{newer}
@@ -66,30 +65,6 @@ prefix-at (suc d) (a ∷ q) h =
     drop-map (λ x. a ∷ x) d (prefixes q)
     ∙ ap (map (λ x. a ∷ x)) (prefix-at d q (omega arith))
     ∙ ap (λ (z : List (List Step)). (a ∷ take (suc d) q) ∷ z) (sym (drop-map (λ x. a ∷ x) (suc d) (prefixes q)))
-
-pub prefix-length : (p q : List Step) → T (isPrefix p q) → length p ≤ length q
-prefix-length [] q t = omega arith
-prefix-length (a ∷ p) [] t = absurd t
-prefix-length (a ∷ p) (b ∷ q) t = let h : length p ≤ length q = prefix-length p q (and-r (sameStep a b) (isPrefix p q) t) in omega arith
-
--- the root is not among the prefixes
-pub prefixes-filled : (x q : List Step) → x ∈ prefixes q → 1 ≤ length x
-prefixes-filled x [] m = absurd (List·Memᴰ·not-nil m)
-prefixes-filled x (b ∷ q) m = go (List·Memᴰ·cases-cons m)
-  where
-    go : (x ≡ b ∷ []) ⊎ (x ∈ map (λ y. b ∷ y) (prefixes q)) → 1 ≤ length x
-    go (inl e) = rw e (omega arith)
-    go (inr k) = let r = map-in (λ y. b ∷ y) (prefixes q) k in rw (r .2) (omega arith)
-
--- every other prefix is
-pub filled-prefix : (x q : List Step) → 1 ≤ length x → T (isPrefix x q) → x ∈ prefixes q
-filled-prefix [] q h t = absurd (omega arith)
-filled-prefix (a ∷ x) q h t = prefixes-in a x q t
-
-pub length-parent : (p : List Step) → length (parent p) ≡ length p - 1
-length-parent [] = refl
-length-parent (a ∷ []) = refl
-length-parent (a ∷ b ∷ p) = let h : length (parent (b ∷ p)) ≡ length (b ∷ p) - 1 = length-parent (b ∷ p) in omega arith
 
 -- ---- what is new, by the steps shared
 
@@ -168,26 +143,17 @@ prefix-common p q t = eqb-yes (subst T (common-prefix p q) t)
 
 -- the parent of p, before a path that is p or extends it
 module _ (p q : List Step) (t : T (isPrefix p q)) where
-  pub parent-above : T (isPrefix (parent p) q)
-  parent-above = prefix-trans (parent p) p q (parent-prefix p) t
-
   pub parent-common : common (parent p) q ≡ length (parent p)
-  parent-common = prefix-common (parent p) q parent-above
-
-  pub parent-shorter : 1 ≤ length q → length (parent p) < length q
-  parent-shorter h =
-      let l : length (parent p) ≡ length p - 1 = length-parent p in
-      let k : length p ≤ length q = prefix-length p q t in
-      omega arith
+  parent-common = prefix-common (parent p) q (parent-above p q t)
 
   pub parent-first : 1 ≤ length q → T (precedes (pathRank (parent p)) (pathRank q))
   parent-first h =
-      prefix-first key key-keyed (parent p) q parent-above
-      (λ e. let k : length (parent p) < length q = parent-shorter h in let l : length (parent p) ≡ length q = ap length e in omega arith)
+      prefix-first key key-keyed (parent p) q (parent-above p q t)
+      (λ e. let k : length (parent p) < length q = parent-shorter p q t h in let l : length (parent p) ≡ length q = ap length e in omega arith)
 
   -- q is no prefix of the parent
   pub parent-not : 1 ≤ length q → T (isPrefix q (parent p)) → ⊥
   parent-not h s =
-      let k : length (parent p) < length q = parent-shorter h in
+      let k : length (parent p) < length q = parent-shorter p q t h in
       let l : length q ≤ length (parent p) = prefix-length q (parent p) s in
       omega arith

@@ -4,7 +4,6 @@ use mathlib.Core.Logic.{_⊎_, inl, inr}
 use mathlib.Core.Bool.{not}
 use mathlib.Core.Option.{Option, none, some}
 use mathlib.Core.List.{List, [], _∷_, _++_, List·Memᴰ·head, List·Memᴰ·tail, List·Memᴰ·cases-cons, List·Memᴰ·not-nil}
-use Prim.Native.Nat.{ℕ}
 use lib.ListN.{length}
 use lib.Dec.{T}
 use mir.Facts.{T-not, not-T}
@@ -19,7 +18,7 @@ use Rattle.model.proofs.Members.{gather-append, gather-ext}
 use Rattle.model.proofs.Paths.{same-eq, same-refl}
 use Rattle.model.proofs.Sets.{contains-in}
 use Rattle.model.proofs.Marks.{content-none}
-use Rattle.listing.specs.Walk.{newer, walk, walkLines}
+use Rattle.listing.specs.Walk.{newer, walk, walkOf, walkLines}
 use Rattle.listing.proofs.Walks.{Distinct, Rest, rest-start, rest-next, new-only, walk-listed}
 
 -- ---- the content at a path that no element has but e
@@ -57,21 +56,27 @@ module _ (x : List Step) (e : Element) where
 -- ---- the lines of a walk
 
 module _ {v : List Element} {p : List Step} where
-  -- the lines of what is left
-  pub rest-printed : (r : List Step) (es : List Element) → Rest v p r es → gather (pathLine v) (walk r es) ≡ walkLines r es
-  unfolding pathLine
-  rest-printed r [] f = refl
-  rest-printed r (e ∷ es) f =
-      gather-append (pathLine v) (newer r (e .path)) (walk (e .path) es)
-      ∙ ap₂ (λ (a b : List ℕ). a ++ b)
-      (gather-ext (pathLine v) (pathLine (e ∷ [])) (newer r (e .path))
-      (λ x m.
-      ap (λ (c : Option Content). line (decimal (length x) ∷ (stepFields (lastStep x) ++ contentFields c)))
-      (content-one x e v (f .inside e (List·Memᴰ·head refl)) (λ d k q. new-only f m d k q))))
-      (rest-printed (e .path) es (rest-next f))
+  -- of what is left: whatever is given for a path by the content that stands there
+  rest-shown : {A : Type 0} (g : List Element → List Step → List A)
+      → ((x : List Step) (u w : List Element) → contentAt u x ≡ contentAt w x → g u x ≡ g w x)
+      → (r : List Step) (es : List Element) → Rest v p r es → gather (g v) (walk r es) ≡ walkOf g r es
+  rest-shown g by r [] f = refl
+  rest-shown {A} g by r (e ∷ es) f =
+      gather-append (g v) (newer r (e .path)) (walk (e .path) es)
+      ∙ ap₂ (λ (a b : List A). a ++ b)
+      (gather-ext (g v) (g (e ∷ [])) (newer r (e .path))
+      (λ x m. by x v (e ∷ []) (content-one x e v (f .inside e (List·Memᴰ·head refl)) (λ d k q. new-only f m d k q))))
+      (rest-shown g by (e .path) es (rest-next f))
+
+-- and so of the view at p
+pub walk-shown : {A : Type 0} (g : List Element → List Step → List A)
+    → ((x : List Step) (u w : List Element) → contentAt u x ≡ contentAt w x → g u x ≡ g w x)
+    → (v : List Element) (p : List Step) → Distinct v → gather (g v) (listed v p) ≡ walkOf g (parent p) (below p v)
+walk-shown g by v p d = ap (gather (g v)) (walk-listed v p d) ∙ rest-shown g by (parent p) (below p v) (rest-start p d)
 
 -- the lines of the view at p
 pub walk-printed : (v : List Element) (p : List Step) → Distinct v
     → gather (pathLine v) (listed v p) ≡ walkLines (parent p) (below p v)
-walk-printed v p d =
-    ap (gather (pathLine v)) (walk-listed v p d) ∙ rest-printed (parent p) (below p v) (rest-start p d)
+unfolding pathLine
+walk-printed =
+    walk-shown pathLine (λ x u w e. ap (λ (c : Option Content). line (decimal (length x) ∷ (stepFields (lastStep x) ++ contentFields c))) e)

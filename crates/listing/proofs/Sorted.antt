@@ -12,7 +12,7 @@ use Rattle.model.proofs.Bools.{and-l, and-r, both}
 use Rattle.model.proofs.Members.{all-in, in-all, map-in}
 use Rattle.model.proofs.Order.{precedes-cancel}
 use Rattle.model.proofs.Paths.{step-refl, key-keyed, prefix-first}
-use Rattle.listing.proofs.Newer.{prefixes-filled}
+use Rattle.model.proofs.Prefixes.{prefixes-filled}
 
 sorted-under : (a : Step) (l : List (List Step)) → T (sorted pathRank l) → T (sorted pathRank (map (λ x. a ∷ x) l))
 sorted-under a [] t = tt

@@ -24,7 +24,7 @@ use Rattle.listing.proofs.Walks.{Distinct, rest-start, length-walk, wal
 use Rattle.listing.proofs.Printed.{walk-printed}
 use Rattle.listing.proofs.Drawing.{lines-short}
 
-valid-some : (n : ℕ) (e : Element) → T (validElement n e) → 1 ≤ length (e .path)
+pub valid-some : (n : ℕ) (e : Element) → T (validElement n e) → 1 ≤ length (e .path)
 unfolding validElement validPath
 valid-some n e v = let t : T (leb 1 (length (e .path))) = search (and-l, and-r) in leb-yes t
 
@@ -43,7 +43,7 @@ walk-short r (e ∷ es) h =
 
 module _ (s : ℕ) (b : List ℕ) where
   -- what is seen is valid
-  visible-valid : {e : Element} → e ∈ visible s (openModel b) → (n : ℕ) × T (validElement n e)
+  pub visible-valid : {e : Element} → e ∈ visible s (openModel b) → (n : ℕ) × T (validElement n e)
   visible-valid m = let x = visible-in s (openModel b) m in (x .0, all-in (validElement (x .0)) (ownSet (x .0) (openModel b)) (open-valid b (x .0) .valid) (x .2))
 
   pub visible-distinct : Distinct (visible s (openModel b))

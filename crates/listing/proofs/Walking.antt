@@ -14,6 +14,7 @@ use Rattle.model.specs.Slot.{depth, readPath, readSlot}
 use Rattle.model.specs.Model.{openModel}
 use Rattle.model.specs.View.{visible, pathLine, seenBelow, below}
 use Rattle.model.proofs.Lists.{all-getD}
+use Rattle.model.proofs.Prefixes.{length-parent}
 use Rattle.path.specs.Common.{common, Compared}
 use Rattle.path.proofs.Steps.{length-steps}
 use Rattle.slot.specs.Slot.{Readable}
@@ -26,7 +27,7 @@ use Rattle.order.proofs.Naming.{ref-valid}
 use Rattle.listing.specs.Walk.{walk, elementLines, walkLines}
 use Rattle.listing.specs.Used.{Used, linesFrom}
 use Rattle.listing.specs.Listed.{pathAbove}
-use Rattle.listing.proofs.Newer.{newer-drop, length-parent, parent-common}
+use Rattle.listing.proofs.Newer.{newer-drop, parent-common}
 use Rattle.listing.proofs.Walks.{Rest, rest-start, rest-new, rest-next, length-walk}
 use Rattle.listing.proofs.Visible.{visible-distinct, below-short}
 
@@ -134,7 +135,7 @@ module _ {s : ℕ} {b : List ℕ} (q : List ℕ) {rs : List ℕ} (r : Refers s b
       ∙ sym (ap (λ (n : ℕ). common (pathAbove b (stepsOf q) rs n) (elementOf b (getD rs i 0) .path)) j)
 
 -- at most six lines for a reference
-few-lines : {s : ℕ} {b : List ℕ} (p : List Step) {rs : List ℕ} → Refers s b rs (seenBelow s (openModel b) p) → length (walk (parent p) (seenBelow s (openModel b) p)) ≤ 6 * length rs
+pub few-lines : {s : ℕ} {b : List ℕ} (p : List Step) {rs : List ℕ} → Refers s b rs (seenBelow s (openModel b) p) → length (walk (parent p) (seenBelow s (openModel b) p)) ≤ 6 * length rs
 few-lines {s} {b} p {rs} r = omega (arith, below-short s b p .1, ap length (r .named), length-map rs (elementOf b))
 
 -- ---- the lines counted

@@ -9,16 +9,17 @@ use lib.Dec.{T}
 use mir.Facts.{T-not, not-T}
 use Rattle.model.specs.Lists.{keep, gather, _∈_}
 use Rattle.model.specs.Sets.{precedes, sort, isBefore, ahead, sorted}
-use Rattle.model.specs.Path.{Step, sameStep, samePath, isPrefix, prefixes, parent, key, pathRank}
+use Rattle.model.specs.Path.{Step, isPrefix, prefixes, parent, key, pathRank}
 use Rattle.model.specs.Element.{Element, rank}
 use Rattle.model.specs.View.{listed, below}
-use Rattle.model.proofs.Bools.{and-l, and-r, both, decide}
+use Rattle.model.proofs.Bools.{and-l, and-r, decide}
 use Rattle.model.proofs.Members.{in-front, in-back, all-in, keep-in, in-keep, gather-in, in-gather}
-use Rattle.model.proofs.Order.{precedes-trans, precedes-irrefl, sorted-keep, sorted-sort, sorted-unique, sort-in, in-sort, in-sort-members, sorted-append}
-use Rattle.model.proofs.Paths.{step-eq, same-eq, same-refl, prefix-refl, prefix-trans, prefix-parent, in-prefixes, key-keyed, keys-injective, prefix-first, between-extends}
+use Rattle.model.proofs.Order.{precedes-trans, precedes-irrefl, precedes-asym, sorted-keep, sorted-sort, sorted-unique, sort-in, in-sort, in-sort-members, sorted-append}
+use Rattle.model.proofs.Paths.{prefix-refl, prefix-trans, prefix-parent, in-prefixes, key-keyed, keys-injective, between-extends}
+use Rattle.model.proofs.Prefixes.{prefixes-filled, filled-prefix, prefix-before, prefix-line}
 use Rattle.path.specs.Common.{common}
 use Rattle.listing.specs.Walk.{newer, walk, under}
-use Rattle.listing.proofs.Newer.{prefixes-filled, filled-prefix, length-newer, common-less, parent-first, parent-not}
+use Rattle.listing.proofs.Newer.{length-newer, common-less, parent-first, parent-not}
 use Rattle.listing.proofs.Sorted.{prefixes-sorted}
 
 -- ---- path order and prefixes
@@ -30,31 +31,6 @@ new-after r q x t d s =
     decide (precedes (pathRank r) (pathRank x))
     (λ (h : T (precedes (pathRank r) (pathRank x))). h)
     (λ (h : T (not (precedes (pathRank r) (pathRank x)))). absurd (T-not (isPrefix x r) (between-extends key key-keyed x r q t h s) d))
-
--- a prefix is the path or comes before it
-pub prefix-before : (x q : List Step) → T (isPrefix x q) → (x ≡ q) ⊎ T (precedes (pathRank x) (pathRank q))
-prefix-before x q t =
-    decide (samePath x q)
-    (λ (s : T (samePath x q)). inl (same-eq x q s))
-    (λ (s : T (not (samePath x q))). inr (prefix-first key key-keyed x q t (λ e. T-not (samePath x q) (rw e (same-refl q)) s)))
-
--- of two prefixes of one path one is a prefix of the other
-prefix-line : (p x q : List Step) → T (isPrefix p q) → T (isPrefix x q) → T (isPrefix x p) ⊎ T (isPrefix p x)
-prefix-line [] x q s t = inr tt
-prefix-line (a ∷ p) [] q s t = inl tt
-prefix-line (a ∷ p) (c ∷ x) [] s t = absurd s
-prefix-line (a ∷ p) (c ∷ x) (b ∷ q) s t =
-    go (prefix-line p x q (and-r (sameStep a b) (isPrefix p q) s) (and-r (sameStep c b) (isPrefix x q) t))
-  where
-    e : a ≡ b
-    e = step-eq a b (and-l (sameStep a b) (isPrefix p q) s)
-
-    f : c ≡ b
-    f = step-eq c b (and-l (sameStep c b) (isPrefix x q) t)
-
-    go : T (isPrefix x p) ⊎ T (isPrefix p x) → T (isPrefix (c ∷ x) (a ∷ p)) ⊎ T (isPrefix (a ∷ p) (c ∷ x))
-    go (inl m) = inl (both (sameStep c a) (isPrefix x p) (rw e (and-l (sameStep c b) (isPrefix x q) t)) m)
-    go (inr m) = inr (both (sameStep a c) (isPrefix p x) (rw f (and-l (sameStep a b) (isPrefix p q) s)) m)
 
 -- ---- what is left of a walk
 
@@ -128,8 +104,7 @@ module _ {v : List Element} {p r : List Step} {e : Element} {es : List Element} 
     new-not = keep-in (λ y. not (isPrefix y r)) (prefixes (e .path)) m .1
 
     pub new-later : T (precedes (pathRank r) (pathRank x))
-    new-later = new-after r (e .path) x new-of new-not (not-T (precedes (rank e) (pathRank r)) (λ s.
-        precedes-irrefl (rank e) (precedes-trans (rank e) (pathRank r) (rank e) s (f .later e (List·Memᴰ·head refl)))))
+    new-later = new-after r (e .path) x new-of new-not (precedes-asym (pathRank r) (rank e) (f .later e (List·Memᴰ·head refl)))
 
     pub new-below : T (isPrefix p x)
     new-below = go (prefix-line p x (e .path) (f .below e (List·Memᴰ·head refl)) new-of)

@@ -1,9 +1,7 @@
--- The walk over references, and the listing laid over an output that has room for it.
-use mathlib.Core.Bool.{cond}
-use mathlib.Core.List.{List, _++_}
+-- The walk over references.
+use mathlib.Core.List.{List}
 use Prim.Native.Nat.{ℕ, zero, suc}
-use lib.ListN.{length, getD, drop}
-use lib.Dec.{leb}
+use lib.ListN.{getD}
 use Rattle.model.specs.Path.{Step, parent}
 use Rattle.order.specs.Refs.{elementOf}
 
@@ -11,7 +9,3 @@ use Rattle.order.specs.Refs.{elementOf}
 abbrev pub pathAbove : List ℕ → List Step → List ℕ → ℕ → List Step
 pathAbove b p rs zero = parent p
 pathAbove b p rs (suc i) = elementOf b (getD rs i 0) .path
-
--- the output with the listing w, if it has room for it
-unfoldable pub laidIn : List ℕ → List ℕ → List ℕ
-laidIn w o = cond (leb (length w) (length o)) (w ++ drop (length w) o) o

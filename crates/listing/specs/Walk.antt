@@ -20,10 +20,14 @@ walk r (e ∷ es) = newer r (e .path) ++ walk (e .path) es
 abbrev pub elementLines : List Step → Element → List ℕ
 elementLines r e = gather (pathLine (e ∷ [])) (newer r (e .path))
 
+-- what f gives for the paths listed for the elements, after path r, each with what stands there
+abbrev pub walkOf : {A : Type 0} → (List Element → List Step → List A) → List Step → List Element → List A
+walkOf f r [] = []
+walkOf f r (e ∷ es) = gather (f (e ∷ [])) (newer r (e .path)) ++ walkOf f (e .path) es
+
 -- the lines of the elements, after path r
 abbrev pub walkLines : List Step → List Element → List ℕ
-walkLines r [] = []
-walkLines r (e ∷ es) = elementLines r e ++ walkLines (e .path) es
+walkLines r es = walkOf pathLine r es
 
 -- the elements whose path is p or extends it
 abbrev pub under : List Step → List Element → List Element

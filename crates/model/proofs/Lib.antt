@@ -5,6 +5,7 @@ pub mod Lists
 pub mod Dominance
 pub mod Order
 pub mod Paths
+pub mod Prefixes
 pub mod Slots
 pub mod Partitions
 pub mod Sets
@@ -17,6 +18,8 @@ pub mod Noninterference
 pub mod Refusals
 pub mod Marks
 pub mod Listings
+pub mod Trees
+pub mod Balance
 pub mod Empty
 pub mod Cases
 pub mod Walks

@@ -1,6 +1,6 @@
 -- Parts of lists, lists of a fixed width, zeros and ranges.
 use mathlib.Core.Path.{_≡_, refl, sym, ap, ap₂, _∙_}
-use mathlib.Core.Bool.{Bool, true, false, _&&_}
+use mathlib.Core.Bool.{Bool, true}
 use mathlib.Core.List.{List, [], _∷_, _++_, append-assoc}
 use Prim.Native.Nat.{ℕ, zero, suc, _+_, _-_, _≤_, _<_}
 use native.Mathlib.Nat.{sub-zero, zero-sub, suc-sub-suc}
@@ -9,17 +9,10 @@ use lib.ListN.{length, take, drop, getD, replicate, length-append, length-take, 
 use lib.Seq.{take-append-add, take-add, take-all, take-at, drop-at, drop-drop, drop-cons, length-take-le}
 use lib.Dec.{T, eqb, eqb-refl}
 use mir.Facts.{eqb-yes, yes-ltb}
-use Rattle.model.specs.Lists.{all, range, isByte, allZero, between, pad}
+use Rattle.model.specs.Lists.{all, range, isByte, allZero, sameBytes, between, pad}
 use Rattle.model.proofs.Bools.{and-l, and-r, both}
 
 -- ---- equality
-
--- the same numbers in the same order, as a test
-abbrev pub sameBytes : List ℕ → List ℕ → Bool
-sameBytes [] [] = true
-sameBytes [] (y ∷ m) = false
-sameBytes (x ∷ l) [] = false
-sameBytes (x ∷ l) (y ∷ m) = eqb x y && sameBytes l m
 
 pub sameBytes-eq : (x y : List ℕ) → T (sameBytes x y) → x ≡ y
 sameBytes-eq [] [] t = refl

@@ -16,8 +16,9 @@ use Rattle.model.specs.Element.{Element, contains, remove}
 use Rattle.model.specs.Store.{storeSize}
 use Rattle.model.specs.Model.{Model, ownSet, live}
 use Rattle.model.specs.View.{visible, reaches, inView, listingOf, listing}
-use Rattle.model.specs.Rows.{Row, row, refusal, goodPath, someRaw, sizeRows, pathRows, viewPathRows, bringRows, ownLiveRows, placeRows, roomRows}
-use Rattle.model.specs.Call.{Op, view, insert, update, delete, Call, callSubject, callerRows, opRows, table, Result, count, Effect, writes, changes, extending, added, effect, Outcome, refused, done, outcomeBy, outcome}
+use Rattle.model.specs.Xml.{xmlOf, xmlView}
+use Rattle.model.specs.Rows.{Row, row, refusal, goodPath, someRaw, sizeRows, pathRows, viewPathRows, lookRows, bringRows, ownLiveRows, placeRows, roomRows}
+use Rattle.model.specs.Call.{Op, view, insert, update, delete, viewXml, Call, callSubject, callerRows, opRows, table, Result, count, Effect, writes, changes, extending, added, effect, Outcome, refused, done, outcomeBy, outcome}
 use Rattle.model.proofs.Bools.{not-not}
 use Rattle.model.proofs.Partitions.{ValidSet}
 use Rattle.model.proofs.Sets.{remove-valid}
@@ -31,6 +32,7 @@ roomOf (view p room) = room
 roomOf (insert p c) = 0
 roomOf (update p c) = 0
 roomOf (delete p) = 0
+roomOf (viewXml p room) = room
 
 pub record OpLaws (o : Op) : Type 0 where
   pub rows-local : (s : ℕ) (m : Model) → T (isLabel s) → refusal (opRows o s m) ≡ refusal (opRows o s (restrict s m))
@@ -93,17 +95,29 @@ changing-laws {o} r =
 
 -- ---- each operation
 
-view-reads : (p : List ℕ) (room : ℕ) → Reading (view p room)
-unfolding opRows effect inView listing
-view-reads p room =
+-- one that writes a text of the visible elements at or below a path, and counts its bytes
+looking : {o : Op} (p : List ℕ) (text : ℕ → List Element → List ℕ)
+    → ((s : ℕ) (m : Model) → opRows o s m ≡ lookRows s m p ++ roomRows (roomOf o) (text s (visible s m)))
+    → ((s : ℕ) (m : Model) → effect o s m ≡ writes (count (length (text s (visible s m)))) (text s (visible s m)))
+    → Reading o
+unfolding inView
+looking {o} p text rows-are effect-is =
     record {
-      rows = λ s v own. viewPathRows p ++ (row 7 (not (reaches v (stepsOf p))) ∷ roomRows room (listingOf s v (stepsOf p)));
-      result = λ s v own. count (length (listingOf s v (stepsOf p)));
-      text = λ s v own. listingOf s v (stepsOf p);
-      rows-are = λ s m. refl;
-      effect-is = λ s m. refl;
+      rows = λ s v own. viewPathRows p ++ (row 7 (not (reaches v (stepsOf p))) ∷ roomRows (roomOf o) (text s v));
+      result = λ s v own. count (length (text s v));
+      text = λ s v own. text s v;
+      rows-are = rows-are;
+      effect-is = effect-is;
       text-fits = λ s v own h. ltb-no (h .1 .1 .0);
     }
+
+view-reads : (p : List ℕ) (room : ℕ) → Reading (view p room)
+unfolding opRows effect listing
+view-reads p room = looking p (λ s v. listingOf s v (stepsOf p)) (λ s m. refl) (λ s m. refl)
+
+xml-reads : (p : List ℕ) (room : ℕ) → Reading (viewXml p room)
+unfolding opRows effect xmlView
+xml-reads p room = looking p (λ s v. xmlOf s v (stepsOf p)) (λ s m. refl) (λ s m. refl)
 
 -- a path and a content that passed rows 4 and 5, and an element made of them
 pub record Brought (p : List ℕ) (c : Content) : Type 0 where
@@ -183,6 +197,7 @@ op-laws (view p room) = reading-laws (view-reads p room)
 op-laws (insert p c) = changing-laws (insert-changes p c)
 op-laws (update p c) = changing-laws (update-changes p c)
 op-laws (delete p) = changing-laws (delete-changes p)
+op-laws (viewXml p room) = reading-laws (xml-reads p room)
 
 -- ---- a call
 

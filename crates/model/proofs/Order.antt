@@ -58,6 +58,9 @@ precedes-irrefl (a ∷ x) t = go (or-yes (ltb a a) (eqb a a && precedes x x) t) 
     go (inl h) f = let k : a < a = ltb-yes h in omega arith
     go (inr h) f = f (and-r (eqb a a) (precedes x x) h)
 
+pub precedes-asym : (x y : List ℕ) → T (precedes x y) → T (not (precedes y x))
+precedes-asym x y t = not-T (precedes y x) (λ s. precedes-irrefl x (precedes-trans x y x t s))
+
 -- a common beginning does not matter
 pub precedes-cancel : (x u v : List ℕ) → precedes (x ++ u) (x ++ v) ≡ precedes u v
 precedes-cancel [] u v = refl
@@ -277,7 +280,7 @@ module _ {A : Type 0} (rank : A → List ℕ) where
   put-first x [] t = refl
   put-first x (y ∷ l) t =
       let a : T (isBefore rank x y) = and-l (isBefore rank x y) (ahead rank x l) t in
-      put-here x y l (not-T (isBefore rank y x) (λ h. precedes-irrefl (rank x) (precedes-trans (rank x) (rank y) (rank x) a h))) a
+      put-here x y l (precedes-asym (rank x) (rank y) a) a
 
   pub sort-first : (x : A) (l : List A) → T (ahead rank x l) → sort rank (x ∷ l) ≡ x ∷ sort rank l
   sort-first x l t = put-first x (sort rank l) (in-all (isBefore rank x) (sort rank l) (λ y m. all-in (isBefore rank x) l t (sort-in l m)))

@@ -7,7 +7,7 @@ use Prim.Native.Nat.{ℕ, _-_}
 use lib.ListN.{length, getD, drop}
 use lib.Dec.{T, eqb, leb}
 use mir.Facts.{T-not, leb-yes, yes-leb, ltb-yes}
-use Rattle.model.specs.Lists.{all}
+use Rattle.model.specs.Lists.{all, sameBytes}
 use Rattle.model.specs.Path.{Step}
 use Rattle.model.specs.Value.{isPrintable}
 use Rattle.model.specs.Store.{emptyStore}
@@ -16,7 +16,7 @@ use Rattle.model.specs.Script.{ScriptValue, group, measure, text, Script
 use Rattle.model.specs.Script.{stepText, pathText, valueFields, opFields, callText, pathInRange, valueInRange, opInRange, inRange}
 use Rattle.model.specs.Script.{Reads, Reading, linesOf, output, Readings, Prints}
 use Rattle.model.proofs.Bools.{and-l, and-r, both, decide, cond-yes, cond-no}
-use Rattle.model.proofs.Lists.{sameBytes, sameBytes-eq, sameBytes-refl}
+use Rattle.model.proofs.Lists.{sameBytes-eq, sameBytes-refl}
 use Rattle.model.proofs.Fields.{all-map, all-joined, split, split-joined, lacks, lacks-of}
 use Rattle.model.proofs.Decimal.{decimal-value, decimal-digits, signedValue, signed-fact, signed-value}
 

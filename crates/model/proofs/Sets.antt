@@ -57,7 +57,7 @@ facts-closed n es f =
 
 -- ---- removing
 
-pub length-keep : (k : Element → Bool) (l : List Element) → length (keep k l) ≤ length l
+pub length-keep : {A : Type 0} (k : A → Bool) (l : List A) → length (keep k l) ≤ length l
 length-keep k [] = omega arith
 length-keep k (d ∷ l) =
     let r : length (keep k l) ≤ length l = length-keep k l in

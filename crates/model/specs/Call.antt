@@ -1,4 +1,4 @@
--- The calls, their rows of the table, and what each does (document 01, "The four calls" and "Whole runs and the book").
+-- The calls, their rows of the table, and what each does (document 01, "The four calls" and "Whole runs and the book"; document 02).
 use mathlib.Core.Option.{Option, none, some}
 use mathlib.Core.List.{List, [], _++_}
 use Prim.Native.Nat.{ℕ}
@@ -10,6 +10,7 @@ use Rattle.model.specs.Value.{Content}
 use Rattle.model.specs.Element.{Element, rank, remove}
 use Rattle.model.specs.Model.{Model, ownSet, withSet}
 use Rattle.model.specs.View.{listing}
+use Rattle.model.specs.Xml.{xmlView}
 use Rattle.model.specs.Rows.{Row, refusal, sizeRows, labelRows, formedRows, pathRows, lookRows, bringRows, ownLiveRows, placeRows, roomRows}
 
 -- who calls
@@ -25,6 +26,7 @@ pub data Op : Type 0 where
   insert : (path : List ℕ) (content : Content) → Op
   update : (path : List ℕ) (content : Content) → Op
   delete : (path : List ℕ) → Op
+  viewXml : (path : List ℕ) (room : ℕ) → Op
 
 pub record Call : Type 0 where
   pub who : Caller
@@ -49,6 +51,7 @@ opRows (view p room) s m = lookRows s m p ++ roomRows room (listing s m (stepsOf
 opRows (insert p c) s m = bringRows p c ++ placeRows s m (stepsOf p)
 opRows (update p c) s m = bringRows p c ++ ownLiveRows s m (stepsOf p)
 opRows (delete p) s m = pathRows p ++ ownLiveRows s m (stepsOf p)
+opRows (viewXml p room) s m = lookRows s m p ++ roomRows room (xmlView s m (stepsOf p))
 
 unfoldable pub table : Call → Model → List Row
 table c m =
@@ -105,6 +108,7 @@ effect (view p room) s m = writes (count (length (listing s m (stepsOf p)))) (li
 effect (insert p c) s m = changes (count 0) (added (stepsOf p) c (ownSet s m))
 effect (update p c) s m = changes (count (extending (stepsOf p) (ownSet s m))) (added (stepsOf p) c (remove (stepsOf p) (ownSet s m)))
 effect (delete p) s m = changes (count (extending (stepsOf p) (ownSet s m))) (remove (stepsOf p) (ownSet s m))
+effect (viewXml p room) s m = writes (count (length (xmlView s m (stepsOf p)))) (xmlView s m (stepsOf p))
 
 -- what an operation yields that is refused: nothing
 abbrev pub nothing : Op → Result

@@ -13,7 +13,7 @@ use Rattle.model.specs.Value.{Content}
 use Rattle.model.specs.Partition.{partitionSize}
 use Rattle.model.specs.Store.{partition, emptyStore}
 use Rattle.model.specs.Text.{ascii}
-use Rattle.model.specs.Call.{view, insert, update, delete, Call, by, count, Answer}
+use Rattle.model.specs.Call.{view, insert, update, delete, viewXml, Call, by, count, Answer}
 use Rattle.model.specs.Run.{answerOf, storeAfter, call, corrupted, run}
 use Rattle.model.specs.Script.{lentPath, Prints}
 
@@ -111,6 +111,21 @@ updateTop = by 0 (update (path (step 1 0 ∷ [])) (text "A"))
 
 abbrev deleteTop : Call
 deleteTop = by 0 (delete (path (step 1 0 ∷ [])))
+
+-- a text with characters that are escaped below what document 01's listing shows, another beside it, and a text that goes with its
+-- parent
+abbrev p5 : List ℕ
+p5 = path (step 10 0 ∷ step 20 16 ∷ step 5 16 ∷ [])
+
+abbrev xmlCalls : List Call
+xmlCalls =
+    insert10
+    ∷ by 16 (insert p20 (measure 106 255 255 255))
+    ∷ by 16 (insert p5 (text "a<b & \"c\">d"))
+    ∷ by 16 (insert (path (step 11 16 ∷ [])) (text "&"))
+    ∷ by 0 (insert (path (step 10 0 ∷ step 7 0 ∷ [])) (text "SLEEVE"))
+    ∷ by 0 (delete p10)
+    ∷ []
 
 -- an element n:0, and 32 of them
 abbrev numbered : ℕ → Call
@@ -231,6 +246,18 @@ furtherCases =
     ++ deepSlot 6 0 0 (zeros 19)
     ++ deepSlot 7 1 4 (106 ∷ 255 ∷ 255 ∷ 255 ∷ zeros 15)
     ++ deepSlot 8 2 2 (65 ∷ 66 ∷ zeros 17)) ∷ [])
+    -- views as XML: of all, in as many bytes and in one less; of a path; of nothing; of a path that is not in view
+    ∷ calls xmlCalls (by 16 (viewXml [] 259))
+    (printed 259
+    "<dossier subject=\"16\"><e10 label=\"0\" preserve=\"REMOVED\" kind=\"-\"><e20 label=\"16\" preserve=\"PRESENT\" kind=\"M\">-150<e5 label=\"16\" preserve=\"PRESENT\" kind=\"T\">a&lt;b &amp; \"c\"&gt;d</e5></e20></e10><e11 label=\"16\" preserve=\"PRESENT\" kind=\"T\">&amp;</e11></dossier>")
+    []
+    ∷ calls xmlCalls (by 16 (viewXml [] 258)) (refusedBy 10) []
+    ∷ calls xmlCalls (by 16 (viewXml p5 16384))
+    (printed 101 "<dossier subject=\"16\"><e5 label=\"16\" preserve=\"PRESENT\" kind=\"T\">a&lt;b &amp; \"c\"&gt;d</e5></dossier>") []
+    ∷ calls xmlCalls (by 0 (viewXml [] 16384)) (printed 31 "<dossier subject=\"0\"></dossier>") []
+    ∷ calls (insert10 ∷ []) (by 0 (viewXml p10 16384))
+    (printed 80 "<dossier subject=\"0\"><e10 label=\"0\" preserve=\"PRESENT\" kind=\"G\"></e10></dossier>") []
+    ∷ calls xmlCalls (by 16 (viewXml (path (step 9 0 ∷ [])) 16384)) (refusedBy 7) []
     -- document 01's script
     ∷ script
     "0\tI\t10:0\tG\t-\n16\tI\t10:0/20:16\tM\t-150\n0\tD\t10:0\n0\tV\t/\n16\tV\t/\n"

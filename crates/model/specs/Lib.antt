@@ -1,4 +1,4 @@
--- Document 01 as definitions, in its order; no proof stands here. The laws are in proofs/.
+-- Document 01 as definitions, in its order, and what document 02 adds; no proof stands here. The laws are in proofs/.
 pub mod Lists
 pub mod Sets
 pub mod Label
@@ -11,6 +11,9 @@ pub mod Store
 pub mod Model
 pub mod Text
 pub mod View
+pub mod Tree
+pub mod Xml
+pub mod Tags
 pub mod Rows
 pub mod Call
 pub mod Run

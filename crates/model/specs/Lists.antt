@@ -44,6 +44,13 @@ isByte x = ltb x 256
 abbrev pub allZero : List ℕ → Bool
 allZero l = all (λ x. eqb x 0) l
 
+-- equal lists of bytes
+abbrev pub sameBytes : List ℕ → List ℕ → Bool
+sameBytes [] [] = true
+sameBytes [] (y ∷ m) = false
+sameBytes (x ∷ l) [] = false
+sameBytes (x ∷ l) (y ∷ m) = eqb x y && sameBytes l m
+
 -- members a to e - 1 of a list
 abbrev pub between : {A : Type 0} → ℕ → ℕ → List A → List A
 between a e l = take (e - a) (drop a l)

@@ -1,15 +1,15 @@
--- References: the slots that they name are readable, and which of two runs has the next element.
+-- References: the slots that they name are readable, which of two runs has the next element, and the first of them.
 use mathlib.Core.Path.{_≡_, refl, sym, ap, ap₂, _∙_}
 use mathlib.Core.Bool.{Bool, true, false, not, true≢false}
 use mathlib.Core.List.{List, [], _∷_, map, List·Memᴰ·head, List·Memᴰ·tail}
-use Prim.Native.Nat.{ℕ, zero, suc, _+_, _/_, _%_, _≤_, _<_}
+use Prim.Native.Nat.{ℕ, zero, suc, _+_, _-_, _/_, _%_, _≤_, _<_, min}
 use native.Mathlib.Omega.{arith}
-use lib.ListN.{length, getD}
+use lib.ListN.{length, getD, take, length-take}
 use lib.Dec.{T, ltb}
 use mir.Facts.{ltb-yes}
 use Rattle.model.specs.Label.{dominates}
 use Rattle.model.specs.Path.{pathRank}
-use Rattle.model.specs.Element.{validElement}
+use Rattle.model.specs.Element.{Element, validElement}
 use Rattle.model.specs.Slot.{slotSize, readPath, readSlot}
 use Rattle.model.specs.Partition.{partitionSize, count, slotAt}
 use Rattle.model.specs.Store.{partition}
@@ -25,7 +25,7 @@ use Rattle.partition.proofs.Finding.{facts, elementAt, elements-range, formed-s
 use Rattle.store.specs.Opened.{Opened}
 use Rattle.store.proofs.Parts.{dominated-lt}
 use Rattle.store.proofs.Viewing.{opened-formed}
-use Rattle.order.specs.Refs.{slotOf, elementOf, refers, Runs, Takes}
+use Rattle.order.specs.Refs.{slotOf, elementOf, refers, Refers, Runs, Takes}
 
 module _ (s : ℕ) (b : List ℕ) (r : ℕ) (t : T (refers s b r)) where
   pub ref-dominated : T (dominates s (r / 32))
@@ -97,3 +97,12 @@ module _ {s : ℕ} {b xs ys : List ℕ} (u : Runs s b xs ys) where
             (λ (a : T (not (isBefore (elementOf b (getD ys j 0) .path) (elementOf b (getD xs i 0) .path)))).
             absurd (u .apart (elementOf b (getD xs i 0)) (elementOf b (getD ys j 0)) (getD-in (elementOf b) xs i h) (getD-in (elementOf b) ys j k)
             (precedes-total (pathRank (elementOf b (getD xs i 0) .path)) (pathRank (elementOf b (getD ys j 0) .path)) (rw e tt) a)))
+
+-- ---- the references behind the first n are not used
+
+pub first-refs : {s : ℕ} {b : List ℕ} {es : List Element} (n : ℕ) (rs : List ℕ) → n ≤ 1024 → Refers s b (take n rs) es
+    → (length (take (n - 0) rs) ≤ 1024) × Refers s b (take (n - 0) rs) es
+first-refs n rs h r =
+    let z : n - 0 ≡ n = omega arith in
+    let l : length (take n rs) ≡ min n (length rs) = length-take n rs in
+    (rw z (omega arith), rw z r)

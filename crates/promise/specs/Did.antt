@@ -5,7 +5,7 @@ use Prim.Native.Nat.{ℕ}
 use lib.ListN.{length, drop}
 use Rattle.model.specs.Model.{openModel}
 use Rattle.model.specs.Rows.{refusal, formedRows}
-use Rattle.model.specs.Call.{Call, callSubject, by, Op, view, insert, update, delete, opRows, Told, counted, Outcome, outcomeBy, outcome}
+use Rattle.model.specs.Call.{Call, callSubject, by, Op, view, insert, update, delete, viewXml, opRows, Told, counted, Outcome, outcomeBy, outcome}
 use Rattle.model.specs.Run.{writeSet}
 
 -- what is told, the store and the output afterwards are those of an outcome for subject s; what is written is laid over the output
@@ -31,6 +31,9 @@ Updated s p kind v b k n b' = Did (by s (update p (record { kind = kind; value =
 
 abbrev pub Deleted : (subject : ℕ) (path store : List ℕ) (number count : ℕ) (store' : List ℕ) → Type 0
 Deleted s p b k n b' = Did (by s (delete p)) b [] (counted k n) b' []
+
+abbrev pub ViewedXml : (subject : ℕ) (path store output : List ℕ) (number count : ℕ) (output' : List ℕ) → Type 0
+ViewedXml s p b o k n o' = Did (by s (viewXml p (length o))) b o (counted k n) b o'
 
 -- ---- an operation for a label, on a store of the right size: what the caller's rows leave to be done
 

@@ -1,3 +1,4 @@
--- Laws of the rows walked by the code, and of a call that goes on behind the first of them.
+-- Laws of the rows walked by the code, of a call that goes on behind the first of them, and of one that writes a text.
 pub mod Walking
 pub mod Entering
+pub mod Looking

@@ -2,6 +2,7 @@
 use crate::measure::{Case, Times, Work, measure, median};
 use crate::side::{Call, Name};
 use crate::stores;
+use dossier::XML_BYTES_MAX;
 use reference::STORE;
 use reference::partition::partition;
 use reference::path::Path as ElementPath;
@@ -12,7 +13,7 @@ use std::path::Path;
 use std::process::Command;
 use std::time::Instant;
 
-/// The bar for View and the well-formedness test.
+/// The bar for the views and the well-formedness test.
 pub const HIGH_BAR: f64 = 1.0;
 /// The bar for every other row.
 const BAR: f64 = 1.2;
@@ -87,14 +88,20 @@ pub fn calls(seed: u64, elements: usize, rounds: usize) -> Vec<Row> {
 type MakeCase = fn(&[u8], u8) -> (Call, Vec<u8>);
 
 /// The kinds of cases: their names, bars, numbers and how they are made.
-const KINDS: [(&str, f64, u32, MakeCase); 6] = [
+const KINDS: [(&str, f64, u32, MakeCase); 7] = [
     ("View of all", HIGH_BAR, 0, |store, subject| (call(Name::View, subject, Vec::new()), store.to_vec())),
     ("View of a path", HIGH_BAR, 0, |store, subject| (call(Name::View, subject, leaf(store, subject)), store.to_vec())),
+    ("View as XML of all", HIGH_BAR, 0, xml_case),
     ("Insert", BAR, 0, insert_case),
     ("Update", BAR, 0, |store, subject| (call(Name::Update, subject, leaf(store, subject)), store.to_vec())),
     ("Delete", BAR, 0, |store, subject| (call(Name::Delete, subject, leaf(store, subject)), store.to_vec())),
     ("Well-formedness test (refusal 4)", HIGH_BAR, 4, test_case),
 ];
+
+/// A view of all as XML, with an output that each one fits.
+fn xml_case(store: &[u8], subject: u8) -> (Call, Vec<u8>) {
+    (Call { output: XML_BYTES_MAX, ..call(Name::ViewXml, subject, Vec::new()) }, store.to_vec())
+}
 
 /// The insert of an element that the store holds: it is taken out before.
 fn insert_case(store: &[u8], subject: u8) -> (Call, Vec<u8>) {

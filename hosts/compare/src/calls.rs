@@ -1,9 +1,10 @@
-//! The four calls and the table of refusals.
+//! The calls and the table of refusals.
 use crate::label::is_label;
 use crate::listing;
 use crate::partition::{self, SLOTS, STORE, dominated, partition};
 use crate::path::Path;
 use crate::value::Value;
+use crate::xml;
 
 /// What a call answers: 0 or the number of its refusal, and its count.
 #[derive(Clone, Copy, PartialEq, Eq, Debug)]
@@ -40,6 +41,11 @@ pub fn view(store: &[u8], subject: u32, path: &[u8], output: &mut [u8]) -> Answe
     answer(try_view(store, subject, path, output))
 }
 
+/// Writes the path and everything in view below it as XML into the output.
+pub fn view_xml(store: &[u8], subject: u32, path: &[u8], output: &mut [u8]) -> Answer {
+    answer(try_view_xml(store, subject, path, output))
+}
+
 /// Makes an element live.
 pub fn insert(store: &mut [u8], subject: u32, path: &[u8], kind: u32, value: &[u8]) -> Answer {
     answer(try_insert(store, subject, path, kind, value))
@@ -63,6 +69,14 @@ fn try_view(store: &[u8], subject: u32, path: &[u8], output: &mut [u8]) -> Resul
     let written = output.get_mut(..listing.len()).ok_or(Refusal::Output)?;
     written.copy_from_slice(&listing);
     Ok(listing.len())
+}
+
+/// The view as XML, or why it is refused.
+fn try_view_xml(store: &[u8], subject: u32, path: &[u8], output: &mut [u8]) -> Result<usize, Refusal> {
+    let subject = subject_of(store, subject)?;
+    let path = Path::read(path).ok_or(Refusal::Path)?;
+    let live = listing::live_below(store, subject, &path).ok_or(Refusal::Absent)?;
+    xml::write(output, subject, &live, &path).ok_or(Refusal::Output)
 }
 
 /// The insert, or why it is refused.

@@ -1,5 +1,5 @@
-//! Document 01 as a Rust program: the store's bytes, the four calls, the printed view and the call runner.
-//! It is written from the document alone and shares nothing with the product.
+//! Document 01 as a Rust program: the store's bytes, the four calls, the printed view and the call runner; and of
+//! document 02 the view as XML. It is written from the documents alone and shares nothing with the product.
 
 pub mod calls;
 pub mod label;
@@ -9,6 +9,7 @@ pub mod path;
 pub mod random;
 pub mod script;
 pub mod value;
+mod xml;
 
-pub use calls::{Answer, delete, insert, update, view};
+pub use calls::{Answer, delete, insert, update, view, view_xml};
 pub use partition::STORE;

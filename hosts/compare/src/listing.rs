@@ -3,18 +3,15 @@ use crate::partition::{Slot, dominated};
 use crate::path::Path;
 use crate::value::Value;
 
-/// A live element of the listing.
-struct Live<'a> {
-    path: Path,
-    slot: Slot<'a>,
+/// A live element of a view.
+pub struct Live<'a> {
+    pub path: Path,
+    pub slot: Slot<'a>,
 }
 
 /// The printed view of the path and everything below it; nothing if the path is not in view.
 pub fn listing(store: &[u8], subject: u8, path: &Path) -> Option<Vec<u8>> {
-    let live = live_below(store, subject, path);
-    if live.is_empty() && path.depth() > 0 {
-        return None;
-    }
+    let live = live_below(store, subject, path)?;
     let lines = lines(&live, path);
     let mut text = Vec::with_capacity(16 + 32 * lines);
     text.extend_from_slice(b"VIEW");
@@ -25,14 +22,14 @@ pub fn listing(store: &[u8], subject: u8, path: &Path) -> Option<Vec<u8>> {
     Some(text)
 }
 
-/// The live elements in view that are the path or extend it, in path order.
-fn live_below<'a>(store: &'a [u8], subject: u8, path: &Path) -> Vec<Live<'a>> {
+/// The live elements in view that are the path or extend it, in path order; nothing if the path is not in view.
+pub fn live_below<'a>(store: &'a [u8], subject: u8, path: &Path) -> Option<Vec<Live<'a>>> {
     let mut live = Vec::new();
     for part in dominated(store, subject) {
         live.extend(part.below(path).1.map(|slot| Live { path: slot.path(), slot }));
     }
     live.sort_by_key(|live| live.path);
-    live
+    (path.depth() == 0 || !live.is_empty()).then_some(live)
 }
 
 /// The depth of the first beginning of this path that is not listed yet: one more than it shares with the path
@@ -45,7 +42,7 @@ fn first_new(before: Option<&Live>, path: &Path, top: &Path) -> usize {
 }
 
 /// Each live element with the depth of its first beginning that is new.
-fn with_first_new<'a, 'b>(live: &'b [Live<'a>], top: &'b Path) -> impl Iterator<Item = (usize, &'b Live<'a>)> {
+pub fn with_first_new<'a, 'b>(live: &'b [Live<'a>], top: &'b Path) -> impl Iterator<Item = (usize, &'b Live<'a>)> {
     let before = std::iter::once(None).chain(live.iter().map(Some));
     before.zip(live).map(|(before, element)| (first_new(before, &element.path, top), element))
 }
@@ -104,8 +101,12 @@ fn put_number(text: &mut Vec<u8>, number: u32) {
 }
 
 /// Writes a number in decimal.
-pub fn put_decimal(text: &mut Vec<u8>, mut number: u32) {
-    let mut digits = [0; 10];
+pub fn put_decimal(text: &mut Vec<u8>, number: u32) {
+    text.extend_from_slice(decimal(number, &mut [0; 10]));
+}
+
+/// A number's decimal digits, laid at the end of these bytes.
+pub fn decimal(mut number: u32, digits: &mut [u8; 10]) -> &[u8] {
     let mut at = digits.len();
     loop {
         at -= 1;
@@ -115,5 +116,5 @@ pub fn put_decimal(text: &mut Vec<u8>, mut number: u32) {
             break;
         }
     }
-    text.extend_from_slice(&digits[at..]);
+    &digits[at..]
 }

@@ -1,9 +1,10 @@
-//! Document 01's test cuts, run on the Rust program, and its well-formedness test and listing against plain definitions.
+//! Document 01's test cuts and examples of XML, run on the Rust program, and its well-formedness test, listing and XML
+//! against plain definitions.
 use reference::label::{LABELS, dominates};
 use reference::partition::{PARTITION, partition};
 use reference::path::{Path, Step};
 use reference::random::Random;
-use reference::{STORE, delete, insert, script, update, view};
+use reference::{STORE, delete, insert, script, update, view, view_xml};
 use std::collections::BTreeMap;
 
 /// The bytes of a path given as names and labels.
@@ -190,6 +191,78 @@ fn listings_hold_what_the_document_says() {
             format!("{} {name} {label} {}", path.depth(), if *live { 'P' } else { 'R' })
         };
         assert_eq!(lines, listed(&store, subject).iter().map(line).collect::<Vec<_>>());
+    }
+}
+
+/// The view as XML, in an output of this length: the number, and what is written.
+fn xml(store: &[u8], subject: u32, steps: &[(u16, u8)], length: usize) -> (u32, String) {
+    let mut output = vec![7; length + 1];
+    let answer = view_xml(store, subject, &path(steps), &mut output[..length]);
+    let (written, rest) = output.split_at(answer.count as usize);
+    assert!(rest.iter().all(|byte| *byte == 7), "bytes behind the XML");
+    (answer.number, String::from_utf8_lossy(written).into_owned())
+}
+
+/// The store of the examples of XML.
+fn with_xml_examples() -> Vec<u8> {
+    let mut store = vec![0; STORE];
+    group(&mut store, 0, &[(10, 0)]);
+    insert(&mut store, 16, &path(&[(10, 0), (20, 16)]), 1, &(-150_i32).to_le_bytes());
+    insert(&mut store, 16, &path(&[(10, 0), (20, 16), (5, 16)]), 2, b"a<b & \"c\">d");
+    insert(&mut store, 16, &path(&[(11, 16)]), 2, b"&");
+    insert(&mut store, 0, &path(&[(10, 0), (7, 0)]), 2, b"SLEEVE");
+    delete(&mut store, 0, &path(&[(10, 0)]));
+    store
+}
+
+#[test]
+fn examples_of_xml() {
+    let store = with_xml_examples();
+    let e5 = r#"<e5 label="16" preserve="PRESENT" kind="T">a&lt;b &amp; "c"&gt;d</e5>"#;
+    let e20 = format!(r#"<e20 label="16" preserve="PRESENT" kind="M">-150{e5}</e20>"#);
+    let e10 = format!(r#"<e10 label="0" preserve="REMOVED" kind="-">{e20}</e10>"#);
+    let e11 = r#"<e11 label="16" preserve="PRESENT" kind="T">&amp;</e11>"#;
+    let examples = [
+        (0, &[][..], String::new(), 31),
+        (16, &[], [&e10, e11].concat(), 259),
+        (16, &[(10, 0)], e10, 204),
+        (16, &[(10, 0), (20, 16), (5, 16)], e5.to_string(), 101),
+        (16, &[(11, 16)], e11.to_string(), 87),
+        (8, &[], String::new(), 31),
+    ];
+    for (subject, steps, elements, length) in examples {
+        let expected = (0, format!(r#"<dossier subject="{subject}">{elements}</dossier>"#));
+        assert_eq!(expected.1.len(), length);
+        for room in [length, length + 1, 426_016] {
+            assert_eq!(xml(&store, subject, steps, room), expected);
+        }
+        for room in [0, length - 1] {
+            assert_eq!(xml(&store, subject, steps, room), (10, String::new()));
+        }
+    }
+    assert_eq!(xml(&store, 16, &[(9, 0)], 1000), (7, String::new()));
+}
+
+/// The XML of the listed elements directly below this path, each with its contents; all of them are groups or removed.
+fn plain_xml(listed: &BTreeMap<Path, bool>, above: &Path) -> String {
+    let inside = listed.iter().filter(|(path, _)| path.parent() == *above);
+    let element = |(path, live): (&Path, &bool)| {
+        let Step { name, label } = path.steps()[path.depth() - 1];
+        let rest = if *live { r#"preserve="PRESENT" kind="G""# } else { r#"preserve="REMOVED" kind="-""# };
+        format!(r#"<e{name} label="{label}" {rest}>{}</e{name}>"#, plain_xml(listed, path))
+    };
+    inside.map(element).collect()
+}
+
+#[test]
+fn xml_holds_what_the_document_says() {
+    let mut random = Random::new(6);
+    for _ in 0..20 {
+        let store = grown(&mut random);
+        let subject = random.below(32) as u8;
+        let elements = plain_xml(&listed(&store, subject), &Path::default());
+        let expected = format!(r#"<dossier subject="{subject}">{elements}</dossier>"#);
+        assert_eq!(xml(&store, subject.into(), &[], 426_016), (0, expected));
     }
 }
 

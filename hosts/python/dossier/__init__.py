@@ -4,7 +4,7 @@ A Store is 41,088 bytes, its own or lent: 32 partitions, one for each label. Sub
 under a label of their own; what a subject sees and is told owes nothing to subjects that he does not dominate. The calls
 themselves are proved; this module only passes bytes and numbers on and reads the answers.
 
-The typed calls are methods of Store. Below them, dossier.raw has the four calls on bytes of any length and on numbers of 32
+The typed calls are methods of Store. Below them, dossier.raw has the calls on bytes of any length and on numbers of 32
 bits: no number is narrowed on its way, so that a subject of 287 is refused by 2 and a kind of 256 by 5. A number that does not
 fit 32 bits never reaches the library: it raises ValueError. What is no whole number, such as 7.5, 1.0 or "1", raises TypeError
 as a level, compartments, a label, a subject, a name, a kind or a measure.
@@ -31,6 +31,11 @@ marked as removed, above his measure:
     1 10 0 removed None
     2 20 16 live Measure(hundredths=-150)
 
+The measure as XML:
+
+    >>> store.view_xml(house_subject, sleeve)
+    '<dossier subject="16"><e20 label="16" preserve="PRESENT" kind="M">-150</e20></dossier>'
+
 A refusal has a number and changes nothing:
 
     >>> try:
@@ -43,7 +48,7 @@ from .answer import Answer, Refusal, Refused, UnexpectedAnswer
 from .label import Compartment, Label, Level
 from .listing import Line, Unreadable, View
 from .path import Step
-from .raw import LISTING_BYTES_MAX, PARTITION_BYTES, STORE_BYTES
+from .raw import LISTING_BYTES_MAX, PARTITION_BYTES, STORE_BYTES, XML_BYTES_MAX
 from .store import Store
 from .value import Group, Kind, Measure, Text
 
@@ -67,4 +72,5 @@ __all__ = [
     "UnexpectedAnswer",
     "Unreadable",
     "View",
+    "XML_BYTES_MAX",
 ]

@@ -37,7 +37,7 @@ class Refusal(IntEnum):
     ABSENT = 7  # the path of a view or the parent of an insert is not in view, or the element is not live
     LIVE = 8  # the element of an insert is live already
     FULL = 9  # the subject's partition holds 32 elements
-    OUTPUT_SHORT = 10  # the output is shorter than the listing
+    OUTPUT_SHORT = 10  # the output is shorter than the listing or the XML
 
 
 class Refused(Exception):

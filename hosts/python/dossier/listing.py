@@ -6,7 +6,7 @@ from .value import Group, Kind, Measure, Text
 
 
 class Unreadable(Exception):
-    """A line of a listing that does not read as one: the archive is of another version."""
+    """A line of a listing that does not read as one, or XML that is no text: the archive is of another version."""
 
 
 class Line(NamedTuple):
@@ -59,3 +59,11 @@ def read_value(mark, kind, value):
     if (mark, kind) == ("P", "T"):
         return Text(value)
     raise ValueError("neither live nor removed")
+
+
+def read_xml(written):
+    """The XML that was written, as a string, or Unreadable."""
+    try:
+        return written.decode("ascii")
+    except UnicodeDecodeError as error:
+        raise Unreadable(written) from error

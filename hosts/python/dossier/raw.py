@@ -1,4 +1,4 @@
-"""The four calls on lent bytes, of any length, and on numbers of 32 bits, which reach the library as they are.
+"""The calls on lent bytes, of any length, and on numbers of 32 bits, which reach the library as they are.
 
 A store or an output that is written is any writable buffer (a bytearray, an mmap, a memoryview of one); a path, a value and the
 store of a view may be bytes too. `include/dossier.h` says what the calls do. What they ask of a host is seen to here: a buffer
@@ -19,6 +19,9 @@ PARTITION_BYTES = 1284
 # No listing has more bytes: at most 1,024 lines of live elements, 5,120 of removed ones and the first.
 LISTING_BYTES_MAX = 119821
 
+# No view as XML has more bytes: at most 1,024 live elements, 5,120 removed ones and the dossier tag.
+XML_BYTES_MAX = 426016
+
 # A buffer's address and length, and a number of 32 bits.
 _BUFFER = [ctypes.c_void_p, ctypes.c_size_t]
 _WORD = [ctypes.c_uint32]
@@ -26,6 +29,7 @@ _WORD = [ctypes.c_uint32]
 # The exported functions and what each takes.
 _DECLARED = {
     "dossier_view": _BUFFER + _WORD + _BUFFER + _BUFFER,
+    "dossier_view_xml": _BUFFER + _WORD + _BUFFER + _BUFFER,
     "dossier_insert": _BUFFER + _WORD + _BUFFER + _WORD + _BUFFER,
     "dossier_update": _BUFFER + _WORD + _BUFFER + _WORD + _BUFFER,
     "dossier_delete": _BUFFER + _WORD + _BUFFER,
@@ -90,9 +94,13 @@ def _answer(exported):
 def view(store, subject, path, output):
     """Lists the path and everything in the subject's view below it into the output. Count: the bytes written; those behind
     them keep their contents."""
-    store, path, output = _read(store), _read(path), _written(output)
-    _apart(output, store, path)
-    return _answer(_library.dossier_view(*_lend(store), _word(subject), *_lend(path), *_lend(output)))
+    return _look(_library.dossier_view, store, subject, path, output)
+
+
+def view_xml(store, subject, path, output):
+    """Writes the path and everything in the subject's view below it as XML into the output. Count: the bytes written; those
+    behind them keep their contents."""
+    return _look(_library.dossier_view_xml, store, subject, path, output)
 
 
 def insert(store, subject, path, kind, value):
@@ -110,6 +118,13 @@ def delete(store, subject, path):
     store, path = _written(store), _read(path)
     _apart(store, path)
     return _answer(_library.dossier_delete(*_lend(store), _word(subject), *_lend(path)))
+
+
+def _look(function, store, subject, path, output):
+    """A call that writes an output and only reads the store."""
+    store, path, output = _read(store), _read(path), _written(output)
+    _apart(output, store, path)
+    return _answer(function(*_lend(store), _word(subject), *_lend(path), *_lend(output)))
 
 
 def _bring(function, store, subject, path, kind, value):

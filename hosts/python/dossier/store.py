@@ -1,6 +1,6 @@
 """The store and its typed calls."""
 from . import raw
-from .listing import View
+from .listing import View, read_xml
 from .path import path_bytes
 
 
@@ -20,6 +20,13 @@ class Store:
         room = bytearray(raw.LISTING_BYTES_MAX) if output is None else output
         count = raw.view(self.buffer, subject.number, path_bytes(path), room).outcome()
         return View(bytes(memoryview(room).cast("B")[:count]))
+
+    def view_xml(self, subject, path=(), output=None):
+        """Writes the path and everything in the subject's view below it as XML, into the output if one is lent; its bytes behind
+        the XML keep their contents. The XML as a string."""
+        room = bytearray(raw.XML_BYTES_MAX) if output is None else output
+        count = raw.view_xml(self.buffer, subject.number, path_bytes(path), room).outcome()
+        return read_xml(bytes(memoryview(room).cast("B")[:count]))
 
     def insert(self, subject, path, value):
         """Makes one live element with a value; its parent must be in view, be it removed. The count: 0."""

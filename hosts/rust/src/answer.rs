@@ -45,7 +45,7 @@ pub enum Refusal {
     Live = 8,
     /// 9: the subject's partition holds 32 elements.
     Full = 9,
-    /// 10: the output is shorter than the listing.
+    /// 10: the output is shorter than the listing or the XML.
     OutputShort = 10,
 }
 
@@ -86,7 +86,7 @@ impl Refusal {
             Refusal::Absent => "the path or its parent is not in view, or the element is not live",
             Refusal::Live => "the element is live already",
             Refusal::Full => "the subject's partition is full",
-            Refusal::OutputShort => "the output is shorter than the listing",
+            Refusal::OutputShort => "the output is shorter than the listing or the XML",
         }
     }
 }
@@ -104,12 +104,12 @@ pub enum Error {
     Refused(Refusal),
     /// The answer is not one of those that this package knows: the archive is of another version.
     Unexpected(Answer),
-    /// A line of a listing does not read as one: the archive is of another version.
+    /// A line of a listing does not read as one, or XML is no text: the archive is of another version.
     Unreadable,
 }
 
 impl Error {
-    /// What the call answered, number and count; nothing for a line that does not read.
+    /// What the call answered, number and count; nothing for what does not read.
     pub fn answer(self) -> Option<Answer> {
         match self {
             Error::Refused(refusal) => Some(Answer { number: refusal.number(), count: 0 }),
@@ -124,7 +124,7 @@ impl fmt::Display for Error {
         match self {
             Error::Refused(refusal) => refusal.fmt(out),
             Error::Unexpected(answer) => write!(out, "unexpected answer: number {}, count {}", answer.number, answer.count),
-            Error::Unreadable => write!(out, "a line of the listing does not read"),
+            Error::Unreadable => write!(out, "a line of the listing, or the XML, does not read"),
         }
     }
 }

@@ -4,7 +4,7 @@
 //! elements, each under a label of their own; what a subject sees and is told owes nothing to subjects that he does not
 //! dominate. The calls themselves are proved; this package only passes bytes and numbers on and reads the answers.
 //!
-//! The typed calls are methods of [`Store`]. Below them, [`raw`] has the four calls on bytes of any length and on numbers of 32
+//! The typed calls are methods of [`Store`]. Below them, [`raw`] has the calls on bytes of any length and on numbers of 32
 //! bits: no number is narrowed on its way, so that a subject of 287 is refused by 2 and a kind of 256 by 5.
 //!
 //! The borrow checker keeps what the calls ask of a host: a buffer that is written does not overlap another one, and nobody else
@@ -35,6 +35,13 @@
 //! let lines = view.lines().collect::<Result<Vec<Line>, Error>>()?;
 //! assert_eq!(lines[0], Line { depth: 1, name: 10, label: open, mark: Mark::Removed });
 //! assert_eq!(lines[1], Line { depth: 2, name: 20, label: house, mark: Mark::Live(Value::Measure(-150)) });
+//!
+//! // The same view as XML.
+//! let mut output = [0; 135];
+//! let xml = store.view_xml(house, &Path::root(), &mut output)?;
+//! let sleeve = r#"<e20 label="16" preserve="PRESENT" kind="M">-150</e20>"#;
+//! let style_with_sleeve = format!(r#"<e10 label="0" preserve="REMOVED" kind="-">{sleeve}</e10>"#);
+//! assert_eq!(xml, format!(r#"<dossier subject="16">{style_with_sleeve}</dossier>"#));
 //!
 //! // A refusal has a number and changes nothing.
 //! let refused = store.delete(open, &style);
@@ -72,3 +79,7 @@ pub const PARTITION_BYTES: usize = 1_284;
 /// No listing has more bytes: at most 1,024 lines of live elements, 5,120 of removed ones and the first. An output of this
 /// length is never refused by 10.
 pub const LISTING_BYTES_MAX: usize = 119_821;
+
+/// No view as XML has more bytes: at most 1,024 live elements, 5,120 removed ones and the dossier tag. An output of this length
+/// is never refused by 10.
+pub const XML_BYTES_MAX: usize = 426_016;

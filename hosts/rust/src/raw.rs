@@ -1,4 +1,4 @@
-//! The four calls on lent bytes, of any length, and on numbers of 32 bits, which reach the library as they are.
+//! The calls on lent bytes, of any length, and on numbers of 32 bits, which reach the library as they are.
 //!
 //! Each is safe for every input: the library refuses what it does not allow. `include/dossier.h` says what the calls do.
 
@@ -9,6 +9,15 @@ mod exported {
 
     extern "C" {
         pub fn dossier_view(
+            store: *const u8,
+            store_length: usize,
+            subject: u32,
+            path: *const u8,
+            path_length: usize,
+            output: *mut u8,
+            output_length: usize,
+        ) -> Answer;
+        pub fn dossier_view_xml(
             store: *const u8,
             store_length: usize,
             subject: u32,
@@ -47,6 +56,23 @@ pub fn view(store: &[u8], subject: u32, path: &[u8], output: &mut [u8]) -> Answe
     // SAFETY: each pointer reaches as many bytes as its length says; the output overlaps nothing, being a `&mut`.
     unsafe {
         exported::dossier_view(store.as_ptr(), store.len(), subject, path.as_ptr(), path.len(), output.as_mut_ptr(), output.len())
+    }
+}
+
+/// Writes the path and everything in the subject's view below it as XML into the output. Count: the bytes written; those behind
+/// them keep their contents.
+pub fn view_xml(store: &[u8], subject: u32, path: &[u8], output: &mut [u8]) -> Answer {
+    // SAFETY: each pointer reaches as many bytes as its length says; the output overlaps nothing, being a `&mut`.
+    unsafe {
+        exported::dossier_view_xml(
+            store.as_ptr(),
+            store.len(),
+            subject,
+            path.as_ptr(),
+            path.len(),
+            output.as_mut_ptr(),
+            output.len(),
+        )
     }
 }
 

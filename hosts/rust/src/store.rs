@@ -1,5 +1,7 @@
 //! The store and its typed calls.
 
+use std::str;
+
 use crate::answer::Error;
 use crate::label::Label;
 use crate::listing::View;
@@ -68,6 +70,16 @@ impl Store<'_> {
         let answer = raw::view(self.as_bytes(), subject.number(), path.as_bytes(), output);
         let count = answer.outcome()?;
         View::of(output, count).ok_or(Error::Unexpected(answer))
+    }
+
+    /// Writes the path and everything in the subject's view below it as XML into the output, whose bytes behind the XML keep their
+    /// contents: the XML, bytes 32 to 126 alone. An output of [`XML_BYTES_MAX`](crate::XML_BYTES_MAX) bytes is long enough for
+    /// every view.
+    pub fn view_xml<'o>(&self, subject: Label, path: &Path, output: &'o mut [u8]) -> Result<&'o str, Error> {
+        let answer = raw::view_xml(self.as_bytes(), subject.number(), path.as_bytes(), output);
+        let count = answer.outcome()?;
+        let written = usize::try_from(count).ok().and_then(|count| output.get(..count)).ok_or(Error::Unexpected(answer))?;
+        str::from_utf8(written).map_err(|_| Error::Unreadable)
     }
 
     /// Makes one live element with a value; its parent must be in view, be it removed. The count: 0.

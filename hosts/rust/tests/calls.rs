@@ -1,7 +1,8 @@
-//! The calls through the package: document 01's example, every refusal, and what is left untouched.
+//! The calls through the package: document 01's example, every refusal, what is left untouched, and XML read back.
 
 use dossier::{
     raw, Answer, Error, Label, Line, Mark, Path, Refusal, Store, Value, LISTING_BYTES_MAX, PARTITION_BYTES, STORE_BYTES,
+    XML_BYTES_MAX,
 };
 
 /// What every output holds before a call.
@@ -49,20 +50,22 @@ fn example() -> Store<'static> {
 #[derive(Clone, Copy, Debug)]
 enum Call<'a> {
     View(&'a [u8], usize),
+    ViewXml(&'a [u8], usize),
     Insert(&'a [u8], u32, &'a [u8]),
     Update(&'a [u8], u32, &'a [u8]),
     Delete(&'a [u8]),
 }
 
-/// The four calls of one path, with nothing else to be refused.
-fn each_call(path: &[u8]) -> [Call<'_>; 4] {
-    [Call::View(path, 64), Call::Insert(path, 0, &[]), Call::Update(path, 0, &[]), Call::Delete(path)]
+/// Each call of one path, the views first, with nothing else to be refused.
+fn each_call(path: &[u8]) -> [Call<'_>; 5] {
+    [Call::View(path, 64), Call::ViewXml(path, 64), Call::Insert(path, 0, &[]), Call::Update(path, 0, &[]), Call::Delete(path)]
 }
 
 /// Makes a call on lent bytes.
 fn perform(store: &mut [u8], subject: u32, call: Call, output: &mut [u8]) -> Answer {
     match call {
         Call::View(path, room) => raw::view(store, subject, path, &mut output[..room]),
+        Call::ViewXml(path, room) => raw::view_xml(store, subject, path, &mut output[..room]),
         Call::Insert(path, kind, value) => raw::insert(store, subject, path, kind, value),
         Call::Update(path, kind, value) => raw::update(store, subject, path, kind, value),
         Call::Delete(path) => raw::delete(store, subject, path),
@@ -154,6 +157,7 @@ fn refusal_1_store_of_another_length() {
         }
         let mut store = Store::from(&mut bytes[..]);
         assert_eq!(store.view(label(0), &Path::root(), &mut [0; 64]), refused(Refusal::StoreLength));
+        assert_eq!(store.view_xml(label(0), &Path::root(), &mut [0; 64]), refused(Refusal::StoreLength));
         assert_eq!(store.insert(label(0), &path(&[(10, 0)]), Value::Group), refused(Refusal::StoreLength));
         assert_eq!(store.update(label(0), &path(&[(10, 0)]), Value::Group), refused(Refusal::StoreLength));
         assert_eq!(store.delete(label(0), &path(&[(10, 0)])), refused(Refusal::StoreLength));
@@ -180,7 +184,9 @@ fn refusal_3_partition_not_well_formed() {
         }
     }
     assert!(store.view(label(15), &Path::root(), &mut [0; 64]).is_ok());
+    assert!(store.view_xml(label(15), &Path::root(), &mut [0; 64]).is_ok());
     assert_eq!(store.view(label(16), &Path::root(), &mut [0; 64]), refused(Refusal::NotWellFormed));
+    assert_eq!(store.view_xml(label(16), &Path::root(), &mut [0; 64]), refused(Refusal::NotWellFormed));
 }
 
 #[test]
@@ -219,10 +225,11 @@ fn refusals_6_7_and_8_of_the_place() {
     }
     assert_eq!(store.insert(label(0), &path(&[(10, 0)]), Value::Group), Ok(0));
     assert_eq!(store.insert(label(16), &path(&[(10, 16)]), Value::Group), Ok(0));
-    for call in each_call(P10).into_iter().skip(1) {
+    for call in each_call(P10).into_iter().skip(2) {
         assert_refused(store.as_mut_bytes(), 16, call, 6);
     }
     assert_refused(store.as_mut_bytes(), 0, Call::View(P10_16, 64), 7);
+    assert_refused(store.as_mut_bytes(), 0, Call::ViewXml(P10_16, 64), 7);
     assert_refused(store.as_mut_bytes(), 0, Call::Insert(P10, 0, &[]), 8);
     assert_refused(store.as_mut_bytes(), 16, Call::Delete(P10_20), 7);
 }
@@ -244,6 +251,7 @@ fn refusal_10_output_too_short() {
     let mut store = example();
     for room in [0, 1, 39] {
         assert_refused(store.as_mut_bytes(), 16, Call::View(&[], room), 10);
+        assert_refused(store.as_mut_bytes(), 16, Call::ViewXml(&[], room), 10);
     }
 }
 
@@ -255,4 +263,147 @@ fn the_smallest_measure_comes_back() {
     let view = store.view(label(0), &Path::root(), &mut output).expect("a view");
     assert_eq!(view.listing(), b"VIEW\t0\t1\n1\t10\t0\tP\tM\t-2147483648\n");
     assert_eq!(view.lines().next().and_then(Result::ok).and_then(|line| line.value()), Some(Value::Measure(i32::MIN)));
+}
+
+/// The store of the worked examples of XML: 10:0 and below it 7:0 and 20:16, 5:16 below 20:16, and 11:16; 0 deletes 10:0.
+fn worked() -> Store<'static> {
+    let mut store = Store::empty();
+    for (subject, steps, value) in [
+        (0, &[(10, 0)][..], Value::Group),
+        (16, &[(10, 0), (20, 16)], Value::Measure(-150)),
+        (16, &[(10, 0), (20, 16), (5, 16)], Value::Text("a<b & \"c\">d")),
+        (16, &[(11, 16)], Value::Text("&")),
+        (0, &[(10, 0), (7, 0)], Value::Text("SLEEVE")),
+    ] {
+        assert_eq!(store.insert(label(subject), &path(steps), value), Ok(0));
+    }
+    assert_eq!(store.delete(label(0), &path(&[(10, 0)])), Ok(2));
+    store
+}
+
+#[test]
+fn xml_of_the_worked_examples() {
+    let store = worked();
+    let e5 = r#"<e5 label="16" preserve="PRESENT" kind="T">a&lt;b &amp; "c"&gt;d</e5>"#;
+    let e20 = format!(r#"<e20 label="16" preserve="PRESENT" kind="M">-150{e5}</e20>"#);
+    let e10 = format!(r#"<e10 label="0" preserve="REMOVED" kind="-">{e20}</e10>"#);
+    let e11 = r#"<e11 label="16" preserve="PRESENT" kind="T">&amp;</e11>"#;
+    for (subject, steps, elements, length) in [
+        (0, &[][..], "", 31),
+        (16, &[], &format!("{e10}{e11}"), 259),
+        (16, &[(10, 0)], &e10, 204),
+        (16, &[(10, 0), (20, 16), (5, 16)], e5, 101),
+        (16, &[(11, 16)], e11, 87),
+        (8, &[], "", 31),
+    ] {
+        let expected = format!(r#"<dossier subject="{subject}">{elements}</dossier>"#);
+        let mut output = [FILL; 300];
+        assert_eq!(expected.len(), length);
+        assert_eq!(store.view_xml(label(subject), &path(steps), &mut output[..length]), Ok(&expected[..]));
+        assert_eq!(output[length..], [FILL; 300][length..]);
+        let mut output = [FILL; 300];
+        assert_eq!(store.view_xml(label(subject), &path(steps), &mut output[..length - 1]), refused(Refusal::OutputShort));
+        assert_eq!(output, [FILL; 300]);
+    }
+    assert_eq!(store.view_xml(label(16), &path(&[(9, 0)]), &mut [0; 300]), refused(Refusal::Absent));
+}
+
+#[test]
+fn bytes_behind_xml_keep_their_contents() {
+    let store = worked();
+    let before = store.as_bytes().to_vec();
+    let mut output = vec![FILL; XML_BYTES_MAX];
+    assert_eq!(store.view_xml(label(16), &Path::root(), &mut output).map(str::len), Ok(259));
+    assert!(output[259..].iter().all(|byte| *byte == FILL));
+    assert!(store.as_bytes() == before);
+}
+
+/// An element, of a listing or read from XML: depth, name and label, and what its attributes preserve and kind and its value are.
+type Element = (u8, u16, u32, String, String, String);
+
+/// An element of a listing.
+fn listed(line: Line) -> Element {
+    let (preserve, kind, value) = match line.mark {
+        Mark::Removed => ("REMOVED", "-", String::new()),
+        Mark::Live(Value::Group) => ("PRESENT", "G", String::new()),
+        Mark::Live(Value::Measure(number)) => ("PRESENT", "M", number.to_string()),
+        Mark::Live(Value::Text(text)) => ("PRESENT", "T", text.to_string()),
+    };
+    (line.depth, line.name, line.label.number(), preserve.to_string(), kind.to_string(), value)
+}
+
+/// What stands between the quotes of an attribute of this name.
+fn attribute<'a>(written: Option<&'a str>, name: &str) -> &'a str {
+    let quoted = written.and_then(|written| written.strip_prefix(name)?.strip_prefix('='));
+    quoted.and_then(|quoted| quoted.strip_prefix('"')?.strip_suffix('"')).expect("an attribute")
+}
+
+/// The elements of XML, in their order; those directly in the dossier tag have this depth. Panics where it is not well formed.
+fn read_xml(xml: &str, subject: u32, top: usize) -> Vec<Element> {
+    let inside = xml.strip_prefix(&format!(r#"<dossier subject="{subject}">"#)).expect("the dossier tag");
+    let inside = inside.strip_suffix("</dossier>").expect("the dossier's end tag");
+    let mut open = Vec::new();
+    let mut elements = Vec::new();
+    assert!(inside.is_empty() || inside.starts_with('<'), "{inside}");
+    for piece in inside.split('<').skip(1) {
+        let (tag, text) = piece.split_once('>').expect("the end of a tag");
+        if let Some(name) = tag.strip_prefix("/e") {
+            assert_eq!((open.pop(), text), (Some(name), ""));
+            continue;
+        }
+        let mut fields = tag.split(' ');
+        let name = fields.next().and_then(|name| name.strip_prefix('e')).expect("a name");
+        let [label, preserve, kind] = ["label", "preserve", "kind"].map(|name| attribute(fields.next(), name));
+        assert_eq!(fields.next(), None);
+        assert!(!text.contains('>'), "{text}");
+        let value = text.replace("&lt;", "<").replace("&gt;", ">").replace("&amp;", "&");
+        let (depth, label) = (top + open.len(), label.parse().expect("a label"));
+        elements.push((depth as u8, name.parse().expect("a number"), label, preserve.to_string(), kind.to_string(), value));
+        open.push(name);
+    }
+    assert_eq!(open, [""; 0]);
+    elements
+}
+
+/// The XML of a view has the elements of its listing, in their order; how many they are.
+fn assert_same_elements(store: &Store, subject: u32, steps: &[(u16, u32)]) -> usize {
+    let (mut listing, mut xml) = (vec![0; LISTING_BYTES_MAX], vec![0; XML_BYTES_MAX]);
+    let view = store.view(label(subject), &path(steps), &mut listing).expect("a view");
+    let xml = store.view_xml(label(subject), &path(steps), &mut xml).expect("a view as XML");
+    let lines = view.lines().map(|line| line.map(listed)).collect::<Result<Vec<_>, _>>().expect("lines");
+    assert_eq!(read_xml(xml, subject, steps.len().max(1)), lines, "{subject} {steps:?}");
+    lines.len()
+}
+
+/// A store with every character in texts, versions of one name, and six steps of which the first four are removed.
+fn mixed() -> Store<'static> {
+    let mut store = worked();
+    let characters = (32..=126).map(char::from).collect::<String>();
+    for (at, name) in (0..characters.len()).step_by(16).zip(1..) {
+        let text = &characters[at..characters.len().min(at + 16)];
+        assert_eq!(store.insert(label(0), &path(&[(name, 0)]), Value::Text(text)), Ok(0));
+    }
+    for number in 0..32 {
+        assert_eq!(store.insert(label(number), &path(&[(7, number)]), Value::Measure(i32::MIN + number as i32)), Ok(0));
+    }
+    let deep = [(65535, 0), (65534, 0), (3, 8), (4, 8), (5, 24), (6, 31)];
+    for depth in 1..=deep.len() {
+        assert_eq!(store.insert(label(deep[depth - 1].1), &path(&deep[..depth]), Value::Text("&<>&<>&<>&<>&<>&")), Ok(0));
+    }
+    assert_eq!(store.delete(label(0), &path(&deep[..1])), Ok(2));
+    assert_eq!(store.delete(label(8), &path(&deep[..3])), Ok(2));
+    store
+}
+
+#[test]
+fn xml_and_listing_have_the_same_elements() {
+    let store = mixed();
+    for subject in 0..32 {
+        assert!(assert_same_elements(&store, subject, &[]) >= 7);
+    }
+    assert_eq!(assert_same_elements(&store, 31, &[(65535, 0)]), 6);
+    assert_eq!(assert_same_elements(&store, 31, &[(65535, 0), (65534, 0), (3, 8)]), 4);
+    assert_eq!(assert_same_elements(&store, 24, &[(65535, 0), (65534, 0), (3, 8), (4, 8)]), 2);
+    assert_eq!(assert_same_elements(&store, 31, &[(7, 31)]), 1);
+    assert_eq!(assert_same_elements(&Store::empty(), 31, &[]), 0);
 }

@@ -1,7 +1,6 @@
 -- `listing::list`: the references in path order, then the listing of them.
 use borrow.Author.Needs.{needs}
-use Rattle.model.specs.Path.{stepsOf}
-use Rattle.listing.proofs.Putting.{first-refs}
+use Rattle.order.proofs.Naming.{first-refs}
 use Rattle.listing.proofs.list.Statement.{statement}
 use Rattle.listing.proofs.list.Tie as tie
 
@@ -19,7 +18,7 @@ list-spec =
     (λ c κs.
     let start = c .before .before .before .before .before .before .before .before .before .before .before in
     let ordered = c .before .before .before .before .before .order in
-    let refs = first-refs (stepsOf (start .args .path .now)) (ordered .result) (ordered .last .1 .1 .1 .0) (ordered .ensures .1) (ordered .ensures .0) in
+    let refs = first-refs (ordered .result) (ordered .last .1 .1 .1 .0) (ordered .ensures .1) (ordered .ensures .0) in
     ((start .pre, refs .0), refs .1))
     (λ c. search needs)  -- same-length
     (λ c. search needs)  -- returns

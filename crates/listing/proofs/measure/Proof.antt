@@ -1,6 +1,6 @@
 -- `listing::measure`: all put over no bytes.
 use borrow.Author.Needs.{needs}
-use Rattle.listing.proofs.Putting.{whole-length}
+use Rattle.text.proofs.Overlays.{whole-length}
 use Rattle.listing.proofs.measure.Statement.{statement}
 use Rattle.listing.proofs.measure.Tie as tie
 

@@ -2,7 +2,8 @@
 use borrow.Author.Needs.{needs}
 use Rattle.promise.proofs.Doing.{acted-raw}
 use Rattle.table.proofs.Walking.{told-yes, lent-opened}
-use Rattle.dossier.proofs.Doing.{view-stops, view-short, view-done}
+use Rattle.table.proofs.Looking.{look-stops, look-short, look-done}
+use Rattle.dossier.proofs.Doing.{view-looks}
 use Rattle.dossier.proofs.viewing.act.Statement.{statement}
 use Rattle.dossier.proofs.viewing.act.Tie as tie
 
@@ -17,7 +18,7 @@ act-spec =
     (λ c.
     let raw = c .before .before in
     let opened = lent-opened (raw .before .before .before .before .before .pre) (raw .before .some-raw .ensures) (raw .if1 .left) in
-    view-stops _ _ _ _ opened (c .before .look-row .ensures) (c .if2 .taken))
+    look-stops (view-looks _ _ _ _) opened (c .before .look-row .ensures) (c .if2 .taken))
     -- list-requires
     (λ c κs.
     let raw = c .before .before .before in
@@ -28,7 +29,7 @@ act-spec =
     let list = c .before .before .before in
     let raw = list .before .before .before .before in
     let opened = lent-opened (raw .before .before .before .before .before .pre) (raw .before .some-raw .ensures) (raw .if1 .left) in
-    view-short _ _ _ _ opened (list .before .before .before .look-row .ensures) (list .before .before .if2 .left)
+    look-short (view-looks _ _ _ _) opened (list .before .before .before .look-row .ensures) (list .before .before .if2 .left)
     (list .list .ensures .0) (c .before .before .output .given) (list .list .ensures .1) (c .if3 .taken))
     (λ c. search needs)  -- same-length-2
     -- returns-4
@@ -36,6 +37,6 @@ act-spec =
     let list = c .before .before .before in
     let raw = list .before .before .before .before in
     let opened = lent-opened (raw .before .before .before .before .before .pre) (raw .before .some-raw .ensures) (raw .if1 .left) in
-    view-done _ _ _ _ opened (list .before .before .before .look-row .ensures) (list .before .before .if2 .left)
+    look-done (view-looks _ _ _ _) opened (list .before .before .before .look-row .ensures) (list .before .before .if2 .left)
     (list .list .ensures .0) (c .before .before .output .given) (list .list .ensures .1) (c .if3 .left))
     )

@@ -1,4 +1,5 @@
 //! The product with one fault each: the comparison has to find every one of them.
+use crate::generate::XML_ROOMY;
 use crate::side::{Call, Name, Side, product};
 use reference::label::LABELS;
 use reference::partition::{HEAD, PARTITION, SLOT, SLOTS, partition};
@@ -6,7 +7,7 @@ use reference::value::Value;
 use reference::{Answer, STORE};
 
 /// Each fault and what it does.
-pub const FAULTS: [(&str, Side); 12] = [
+pub const FAULTS: [(&str, Side); 15] = [
     ("a refused view writes the output's first byte", writes_when_refused),
     ("a view writes the byte behind its listing", writes_behind),
     ("a refused call writes the store's last byte", writes_store_when_refused),
@@ -19,6 +20,9 @@ pub const FAULTS: [(&str, Side); 12] = [
     ("a partition is full with 31", full_early),
     ("the value is tested before the path", value_first),
     ("a live version of the name with a higher label stops an insert", tells_of_higher),
+    ("the XML has > as it is", leaves_greater),
+    ("the XML closes an element by the name of the one around it", closes_by_parent),
+    ("the XML has - for the value of a removed element", values_removed),
 ];
 
 /// The answer of a refusal.
@@ -139,4 +143,49 @@ fn tells_of_higher(call: &Call, store: &mut [u8], output: &mut [u8]) -> Answer {
         return refused(8);
     }
     product(call, store, output)
+}
+
+/// Makes a call with the product's XML changed, as a writer with that fault would.
+fn with_xml(call: &Call, store: &mut [u8], output: &mut [u8], change: impl Fn(&str) -> String) -> Answer {
+    if call.name != Name::ViewXml {
+        return product(call, store, output);
+    }
+    let mut space = vec![0; XML_ROOMY];
+    let answer = product(call, store, &mut space);
+    if answer.number != 0 {
+        return answer;
+    }
+    let xml = change(&String::from_utf8_lossy(&space[..answer.count as usize]));
+    let Some(written) = output.get_mut(..xml.len()) else { return refused(10) };
+    written.copy_from_slice(xml.as_bytes());
+    Answer { number: 0, count: xml.len() as u64 }
+}
+
+/// Escapes only `&` and `<`.
+fn leaves_greater(call: &Call, store: &mut [u8], output: &mut [u8]) -> Answer {
+    with_xml(call, store, output, |xml| xml.replace("&gt;", ">"))
+}
+
+/// Writes the end tag of an element inside another one with the other's name.
+fn closes_by_parent(call: &Call, store: &mut [u8], output: &mut [u8]) -> Answer {
+    with_xml(call, store, output, |xml| {
+        let (mut changed, mut open) = (String::new(), Vec::new());
+        for piece in xml.split('<').skip(1) {
+            let name = piece.split([' ', '>']).next().unwrap_or(piece);
+            let closed = name.starts_with('/').then(|| open.pop()).flatten();
+            match (closed, open.last()) {
+                (Some(_), Some(around)) if open.len() > 1 => changed += &format!("</{around}>"),
+                _ => changed += &format!("<{piece}"),
+            }
+            if closed.is_none() {
+                open.push(name);
+            }
+        }
+        changed
+    })
+}
+
+/// Writes what a listing has for a value where an element is removed.
+fn values_removed(call: &Call, store: &mut [u8], output: &mut [u8]) -> Answer {
+    with_xml(call, store, output, |xml| xml.replace(r#" kind="-">"#, r#" kind="-">-"#))
 }

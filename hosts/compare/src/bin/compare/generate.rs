@@ -8,23 +8,40 @@ use reference::path::{DEPTH, Path, Step};
 use reference::random::Random;
 
 /// An output that every listing fits: 6,144 lines and the first.
-pub const ROOMY: usize = 262_144;
+const ROOMY: usize = 262_144;
+/// An output that every view as XML fits too: 6,144 elements and the dossier tag.
+pub const XML_ROOMY: usize = 524_288;
+
+/// The calls, as often as each is made.
+const NAMES: [Name; 9] = [
+    Name::View,
+    Name::View,
+    Name::ViewXml,
+    Name::ViewXml,
+    Name::Insert,
+    Name::Insert,
+    Name::Insert,
+    Name::Update,
+    Name::Delete,
+];
 
 /// A subject and a path for him.
 type Aim = (u32, Vec<u8>);
 
 /// A random call for this store; where there is a label to prefer, inserts often take it.
 pub fn call(random: &mut Random, store: &[u8], preferred: Option<u8>) -> Call {
-    let name =
-        random.pick(&[Name::View, Name::View, Name::Insert, Name::Insert, Name::Insert, Name::Update, Name::Delete]);
+    let name = random.pick(&NAMES);
     let (subject, path) = match name {
-        Name::View => view_aim(random, store),
+        Name::View | Name::ViewXml => view_aim(random, store),
         Name::Insert => insert_aim(random, store, preferred),
         Name::Update | Name::Delete => write_aim(random, store),
     };
     let (kind, value) = valid_value(random);
-    let mut call =
-        Call { name, subject, path, kind, value, output: random.pick(&[16_384, 16_384, 16_384, 65_536, ROOMY]) };
+    let output = match name {
+        Name::ViewXml => random.pick(&[16_384, 65_536, 65_536, ROOMY, XML_ROOMY]),
+        _ => random.pick(&[16_384, 16_384, 16_384, 65_536, ROOMY]),
+    };
+    let mut call = Call { name, subject, path, kind, value, output };
     while random.percent(20) {
         spoil(random, &mut call);
     }

@@ -13,14 +13,15 @@ use side::{Call, Name, Side};
 use std::process::ExitCode;
 
 /// How many calls of each name were answered with each number.
-type Tally = [[u64; 11]; 4];
+type Tally = [[u64; 11]; 5];
 
 /// The numbers that each call can answer, in the order of `Name`.
-const NUMBERS: [(Name, &[usize]); 4] = [
+const NUMBERS: [(Name, &[usize]); 5] = [
     (Name::View, &[0, 1, 2, 3, 4, 7, 10]),
     (Name::Insert, &[0, 1, 2, 3, 4, 5, 6, 7, 8, 9]),
     (Name::Update, &[0, 1, 2, 3, 4, 5, 6, 7]),
     (Name::Delete, &[0, 1, 2, 3, 4, 6, 7]),
+    (Name::ViewXml, &[0, 1, 2, 3, 4, 7, 10]),
 ];
 
 /// What the command line asks for.
@@ -218,12 +219,12 @@ impl Course {
         Some(saved)
     }
 
-    /// A random call; the output of a view is often about as long as its listing.
+    /// A random call; the output of a view is often about as long as its listing or its XML.
     fn next_call(&self, random: &mut Random, stores: &Stores, preferred: Option<u8>) -> Call {
         let mut call = generate::call(random, &stores.reference, preferred);
-        if call.name == Name::View && random.percent(30) {
-            let mut space = vec![0; generate::ROOMY];
-            let needed = reference::view(&stores.reference, call.subject, &call.path, &mut space).count as usize;
+        if has_output(call.name) && random.percent(30) {
+            let mut space = vec![0; generate::XML_ROOMY];
+            let needed = side::reference(&call, &mut stores.reference.clone(), &mut space).count as usize;
             call.output = random.pick(&[needed, needed.saturating_sub(1), needed + 1, needed / 2]);
         }
         call
@@ -251,7 +252,7 @@ impl Stores {
 
     /// Makes the call on both sides: the answer, or what is different.
     fn both(&mut self, random: &mut Random, call: &Call, side: Side) -> Result<Answer, String> {
-        let fill = vec![random.byte(); if call.name == Name::View { call.output } else { 0 }];
+        let fill = vec![random.byte(); if has_output(call.name) { call.output } else { 0 }];
         let mut lent = Lent::new(&fill, random.below(16));
         let mut output = fill;
         let other = side(call, self.product.bytes_mut(), lent.bytes_mut());
@@ -266,6 +267,11 @@ impl Stores {
         }
         Ok(answer)
     }
+}
+
+/// Whether a call takes an output.
+fn has_output(name: Name) -> bool {
+    matches!(name, Name::View | Name::ViewXml)
 }
 
 /// Where two outputs or stores differ first, if they do.

@@ -2,13 +2,14 @@
 use dossier::raw;
 use reference::Answer;
 
-/// Which of the four calls.
+/// Which call.
 #[derive(Clone, Copy, PartialEq, Eq, Debug)]
 pub enum Name {
     View,
     Insert,
     Update,
     Delete,
+    ViewXml,
 }
 
 /// A call with its inputs.
@@ -33,6 +34,7 @@ pub fn reference(call: &Call, store: &mut [u8], output: &mut [u8]) -> Answer {
         Name::Insert => reference::insert(store, *subject, path, *kind, value),
         Name::Update => reference::update(store, *subject, path, *kind, value),
         Name::Delete => reference::delete(store, *subject, path),
+        Name::ViewXml => reference::view_xml(store, *subject, path, output),
     }
 }
 
@@ -44,6 +46,7 @@ pub fn product(call: &Call, store: &mut [u8], output: &mut [u8]) -> Answer {
         Name::Insert => raw::insert(store, *subject, path, *kind, value),
         Name::Update => raw::update(store, *subject, path, *kind, value),
         Name::Delete => raw::delete(store, *subject, path),
+        Name::ViewXml => raw::view_xml(store, *subject, path, output),
     };
     Answer { number, count }
 }

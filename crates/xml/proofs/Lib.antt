@@ -1,0 +1,3 @@
+-- Laws of tags and values.
+pub mod Tags
+pub mod Widths
