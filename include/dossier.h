@@ -149,8 +149,8 @@ struct dossier_answer dossier_view_xml(const uint8_t *store, size_t store_length
 struct dossier_answer dossier_insert(uint8_t *store, size_t store_length, uint32_t subject, const uint8_t *path,
                                      size_t path_length, uint32_t kind, const uint8_t *value, size_t value_length);
 
-/* Deletes a live element with all below it of the same label, and puts the element back with another value.
- * Count: how many elements were taken, the element itself included. Only the subject's partition is written. */
+/* Replaces the value of a live element, its kind too, and keeps all else: the elements below it stay, whatever their label.
+ * Count: 1, the element replaced. Only the subject's partition is written. */
 struct dossier_answer dossier_update(uint8_t *store, size_t store_length, uint32_t subject, const uint8_t *path,
                                      size_t path_length, uint32_t kind, const uint8_t *value, size_t value_length);
 

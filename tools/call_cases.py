@@ -317,9 +317,12 @@ def six_and_seven():
     delete(0, six, 0, 1)
     insert(0, six, T("again"), 0)
     show()
-    update(0, "1:0/2:0/3:0", G, 0, 4)
-    view(0, "1:0/2:0", 100, 0, 33, ["VIEW→0→2", "2→2→0→P→G→-", "3→3→0→P→G→-"])
-    delete(0, "1:0", 0, 3)
+    update(0, "1:0/2:0/3:0", T("three"), 0, 1)
+    lines = ["VIEW→0→5", "2→2→0→P→G→-", "3→3→0→P→T→three", "4→4→0→P→G→-", "5→5→0→P→G→-", "6→6→0→P→T→again"]
+    view(0, "1:0/2:0", 100, 0, 77, lines)
+    show()
+    delete(0, "1:0/2:0/3:0", 0, 4)
+    delete(0, "1:0", 0, 2)
     show()
 
 
@@ -431,6 +434,21 @@ def full():
     insert(0, "33:0", M(33), 0)
     insert(0, "34:0", G, 9)
     show()
+    then("an update of one of 32 that has others below it")
+    delete(0, "1:0", 0, 1)
+    delete(0, "2:0", 0, 1)
+    insert(0, "17:0/5:0", M(5), 0)
+    insert(0, "17:0/5:0/6:0", T("six"), 0)
+    insert(16, "17:0/5:0/6:16", G, 0)
+    update(0, "17:0", M(17), 0, 1)
+    update(0, "17:0/5:0", G, 0, 1)
+    insert(0, "34:0", G, 9)
+    lines = ["VIEW→16→4", "1→17→0→P→M→17", "2→5→0→P→G→-", "3→6→0→P→T→six", "3→6→16→P→G→-"]
+    view(16, "17:0", 100, 0, 63, lines)
+    show()
+    delete(0, "17:0", 0, 3)
+    insert(0, "34:0", G, 0)
+    view_lines(0, "/", 30)
 
 
 @case("removed elements are not counted")
@@ -474,24 +492,26 @@ def higher_version():
 def parent_removed():
     insert(0, "10:0", G, 0)
     insert(16, "10:0/20:16", M(1), 0)
+    insert(16, "10:0/20:16/30:16", M(4), 0)
     delete(0, "10:0", 0, 1)
     update(16, "10:0/20:16", M(2), 0, 1)
     insert(16, "10:0/21:16", M(3), 0)
-    view(16, "/", 100, 0, 51, ["VIEW→16→3", "1→10→0→R→-→-", "2→20→16→P→M→2", "2→21→16→P→M→3"])
+    lines = ["VIEW→16→4", "1→10→0→R→-→-", "2→20→16→P→M→2", "3→30→16→P→M→4", "2→21→16→P→M→3"]
+    view(16, "/", 100, 0, 65, lines)
     insert(0, "10:0/22:0", G, 7)
     update(0, "10:0", G, 7)
     delete(0, "10:0", 7)
     then("the mark vanishes with the last live element below it")
     delete(16, "10:0/21:16", 0, 1)
-    view(16, "10:0", 100, 0, 37, ["VIEW→16→2", "1→10→0→R→-→-", "2→20→16→P→M→2"])
-    delete(16, "10:0/20:16", 0, 1)
+    view(16, "10:0", 100, 0, 51, ["VIEW→16→3", "1→10→0→R→-→-", "2→20→16→P→M→2", "3→30→16→P→M→4"])
+    delete(16, "10:0/20:16", 0, 2)
     view(16, "10:0", 100, 7)
     view(16, "/", 100, 0, 10, ["VIEW→16→0"])
     insert(16, "10:0/20:16", M(1), 7)
     show()
 
 
-@case("deletes and updates take what is below of the same label")
+@case("deletes take what is below of the same label")
 def below_of_one_label():
     insert(0, "10:0", G, 0)
     insert(0, "10:0/20:0", G, 0)
@@ -500,9 +520,10 @@ def below_of_one_label():
     insert(0, "11:0", G, 0)
     insert(16, "10:0/20:0/30:16", G, 0)
     insert(16, "10:16", G, 0)
-    update(0, "10:0/20:0", M(5), 0, 2)
-    lines = ["VIEW→16→6", "1→10→0→P→G→-", "2→20→0→P→M→5", "3→30→16→P→G→-", "2→21→0→P→G→-", "1→10→16→P→G→-", "1→11→0→P→G→-"]
+    delete(0, "10:0/20:0", 0, 2)
+    lines = ["VIEW→16→6", "1→10→0→P→G→-", "2→20→0→R→-→-", "3→30→16→P→G→-", "2→21→0→P→G→-", "1→10→16→P→G→-", "1→11→0→P→G→-"]
     view(16, "/", 100, 0, 90, lines)
+    insert(0, "10:0/20:0", M(5), 0)
     delete(0, "10:0", 0, 3)
     lines = ["VIEW→16→5", "1→10→0→R→-→-", "2→20→0→R→-→-", "3→30→16→P→G→-", "1→10→16→P→G→-", "1→11→0→P→G→-"]
     view(16, "/", 100, 0, 77, lines)
@@ -512,6 +533,40 @@ def below_of_one_label():
     insert(16, "10:0/20:0/31:16", G, 0)
     delete(16, "10:0/20:0/30:16", 0, 1)
     delete(16, "10:0/20:0/30:16", 7)
+    show()
+
+
+@case("an update keeps what is below")
+def update_keeps():
+    # document 02's request 2/14
+    insert(0, "10:0", G, 0)
+    insert(0, "10:0/20:0", G, 0)
+    insert(0, "10:0/20:0/30:0", G, 0)
+    update(0, "10:0", T("PIECE"), 0, 1)
+    view(0, "/", 100, 0, 52, ["VIEW→0→3", "1→10→0→P→T→PIECE", "2→20→0→P→G→-", "3→30→0→P→G→-"])
+    show()
+    update(0, "10:0/20:0", M(5), 0, 1)
+    view(0, "/", 100, 0, 52, ["VIEW→0→3", "1→10→0→P→T→PIECE", "2→20→0→P→M→5", "3→30→0→P→G→-"])
+    markup(0, "/", 200, 0, 184, dossier(0, e(10, 0, "T", "PIECE", e(20, 0, "M", "5", e(30, 0, "G")))))
+    show()
+    update(0, "11:0", G, 7)
+    view(0, "/", 100, 0, 52, ["VIEW→0→3", "1→10→0→P→T→PIECE", "2→20→0→P→M→5", "3→30→0→P→G→-"])
+    delete(0, "10:0", 0, 3)
+    view(0, "/", 100, 0, 9, ["VIEW→0→0"])
+    then("an update keeps what is below of its own label and of others")
+    insert(0, "10:0", T("SLEEVE LEFT HAND"), 0)
+    insert(0, "10:0/20:0", M(1), 0)
+    insert(9, "10:0/20:0/30:9", M(2), 0)
+    insert(16, "10:0/20:16", T("high"), 0)
+    insert(16, "10:0/20:16/40:16", M(3), 0)
+    update(0, "10:0", T("CUFF"), 0, 1)
+    update(16, "10:0/20:16", G, 0, 1)
+    low = ["1→10→0→P→T→CUFF", "2→20→0→P→M→1"]
+    view(0, "/", 100, 0, 38, ["VIEW→0→2"] + low)
+    high = ["3→30→9→P→M→2", "2→20→16→P→G→-", "3→40→16→P→M→3"]
+    view(25, "/", 100, 0, 80, ["VIEW→25→5"] + low + high)
+    update(0, "10:0/20:0", M(-1), 0, 1)
+    view(25, "10:0/20:0", 100, 0, 37, ["VIEW→25→2", "2→20→0→P→M→-1", "3→30→9→P→M→2"])
     show()
 
 
@@ -795,9 +850,9 @@ def refusal_3():
     view(0, "/", 100, 0, 22, ["VIEW→0→1", "1→10→0→P→G→-"])
     markup(0, "/", 100, 0, 80, '<dossier subject="0"><e10 label="0" preserve="PRESENT" kind="G"></e10></dossier>')
     insert(9, "10:9/11:9", G, 0)
-    update(9, "10:9", M(1), 0, 2)
-    view(9, "/", 100, 0, 35, ["VIEW→9→2", "1→10→0→P→G→-", "1→10→9→P→M→1"])
-    delete(9, "10:9", 0, 1)
+    update(9, "10:9", M(1), 0, 1)
+    view(9, "/", 100, 0, 48, ["VIEW→9→3", "1→10→0→P→G→-", "1→10→9→P→M→1", "2→11→9→P→G→-"])
+    delete(9, "10:9", 0, 2)
     show()
     then("mended; then the partition below both")
     corrupt(PARTITION * 16 + 2, b"\0")
@@ -1008,20 +1063,21 @@ def counts():
 
 # ---------------------------------------------------------------------------------------------------------------------
 # Sequences of files, chosen by their names: between them they give every number but 1. With each, the SHA-256 of its last store.
+# Of those made before request 2/14 only such are chosen in which no update finds an element of its own label below its path.
 
 CHOSEN = {
-    "sequence 2": "9f497380710d4c12511be5625ef57716af53a0f0abf01cd06e30161ec2c223e4",
     "sequence 4": "2302a893e21f076f50abd462a770ff26bddd0c64c2682551e8781022b7cdf349",
-    "sequence 7": "79858ec1f9d6444674f0cff639b8cd1981d45ea76a3e3b22245e622fc020b06e",
+    "sequence 9": "3bd69345f7dfd9f23d689fa0a2bfd6c8588de9eecde74a54cbdf6389e0590b5e",
+    "sequence 12": "660c2610b4586c22a878becb3ba3da2134a97685bc21a389a391c506611e2ea7",
     "sequence 13": "ddcf9336406082fc0029a62ef7f7416845bb3ed251d12ebedf2b8101e49d8299",
-    "sequence 14": "c85f8c89f48063b00c14a2c1f34eed78476758a133875bffbfd50f552aceb92d",
     "sequence 16": "c37d233190dd0afc3d61ccdc5ef82296e58f6da6a05155363865c9a4be91527c",
     "sequence 17": "27dc56f1b389e30f99ce94b90395593614b3cb582472c7249e99cfce09f9c1eb",
     "sequence 19": "20f461c0a8d63da936e94800bd4bf62af5b98bd2ff8f75f80703e39c2360c1a0",
-    "sequence 20": "1d76601c6dcd4ae2bd0ab2f70e0be375f7d87b74c7a1b11e55bc0c6c6faf4094",
-    "sequence 1110 after request 1": "ce26836c9933536f53fa3d4f81b2f7828f5057ed4295ae5c4fe01a4f3cb715ca",
-    "sequence 1125 after request 1": "2b9cdf299af0d3644eb02ab0e14abd12fe579182d1ab38065d384878030b8463",
     "sequence 1022 after request 1": "d5d1cf0d64209e98905d757f00eec257b237e92a5658e78074b25a5b842cc06d",
+    "sequence 2072 after request 2": "d0ed54f4b04ab8be0b80b8a4d8d2b5147c17297b525389ae4b46fab87edc2081",
+    "sequence 2122 after request 2": "0e94562524633c412211e0be427bb704c0616f306746ada7861b3f4b4e811597",
+    "sequence 2140 after request 2": "f433a957ac4ea9606133aa7a0e282504f5e2e1d5c99e062c7d3a946b3e89af4d",
+    "sequence 2175 after request 2": "7ffe429095161c59f5ddc179f6deba8b1202f8183cbfbb30cd09c98ac3f68877",
 }
 
 

@@ -1,8 +1,8 @@
 """Documents 01 and 02 as a Python program, written from the documents alone: the reference that expected output comes from.
 
 It holds labels, paths, values, the bytes of slots, partitions and stores, what is in view, how it is listed and how it is written
-as XML, and the five calls on a model of the store: the four of document 01, and the view as XML of document 02's request 1/14.
-It shares no code with the crates, and runs by no part of them.
+as XML, and the five calls on a model of the store: the four of document 01, Update as document 02's request 2/14 amends it, and
+the view as XML of request 1/14. It shares no code with the crates, and runs by no part of them.
 """
 import struct
 
@@ -205,9 +205,10 @@ class Model:
             text = self.listing(subject, path) if op == "V" else self.xml(subject, path)
             return (10, 0, b"") if room < len(text) else (0, len(text), text)
         own = self.parts[subject]
-        gone = [p for p in own if op in "UD" and p[: len(path)] == path]
-        for p in gone:
-            del own[p]
         if op in "IU":
             own[path] = (kind, bytes(value))
+            return 0, 1 if op == "U" else 0, b""
+        gone = [p for p in own if p[: len(path)] == path]
+        for p in gone:
+            del own[p]
         return 0, len(gone), b""

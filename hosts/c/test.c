@@ -1,4 +1,5 @@
-/* Tests the C declarations: answers, listings, XML and what refusals leave untouched. The last line is 'N passed, N failed'. */
+/* Tests the C declarations: answers, listings, XML, what refusals leave untouched and what an update keeps. The last line is
+ * 'N passed, N failed'. */
 #include "dossier.h"
 
 #include <stdio.h>
@@ -18,7 +19,7 @@ static uint8_t output[512];
 /* How many checks held and how many did not. */
 static int passed, failed;
 
-/* Paths: the root, 10:0, below it 20:16, 7:0 and 30:0, 5:16 below 20:16, 40:0 below 30:0, 10:16, 11:16 and 9:0. */
+/* Paths: the root, 10:0, below it 20:16, 7:0 and 30:0, 5:16 below 20:16, 40:0 and 35:16 below 30:0, 10:16, 11:16 and 9:0. */
 static const uint8_t none[1];
 static const uint8_t p10[] = {10, 0, 0};
 static const uint8_t p10_20[] = {10, 0, 0, 20, 0, 16};
@@ -26,6 +27,7 @@ static const uint8_t p10_20_5[] = {10, 0, 0, 20, 0, 16, 5, 0, 16};
 static const uint8_t p10_7[] = {10, 0, 0, 7, 0, 0};
 static const uint8_t p10_30[] = {10, 0, 0, 30, 0, 0};
 static const uint8_t p10_30_40[] = {10, 0, 0, 30, 0, 0, 40, 0, 0};
+static const uint8_t p10_30_35[] = {10, 0, 0, 30, 0, 0, 35, 0, 16};
 static const uint8_t p10_16[] = {10, 0, 16};
 static const uint8_t p11_16[] = {11, 0, 16};
 static const uint8_t p9[] = {9, 0, 0};
@@ -199,15 +201,50 @@ static void test_xml(void)
     check("a view as XML leaves the store", memcmp(store, kept, sizeof store) == 0);
 }
 
-/* What an update and a delete count. */
-static void test_counts(void)
+/* A subject sees these lines, and nothing behind them is written. */
+static void sees(const char *name, uint32_t subject, const char *lines)
+{
+    size_t length = strlen(lines);
+    memset(output, FILL, sizeof output);
+    done(name, view(subject, none, 0, sizeof output), length);
+    check(name, memcmp(output, lines, length) == 0 && is_untouched_from(length));
+    memset(output, FILL, sizeof output);
+}
+
+/* 10:0, 10:0/30:0 with a value, 10:0/30:0/40:0, and 10:0/30:0/35:16 by 16. */
+static void make_nested(uint32_t kind, const uint8_t *value, size_t value_length)
 {
     start();
     done("insert 10:0", insert_group(0, LENT(p10)), 0);
-    done("insert 10:0/30:0", insert_group(0, LENT(p10_30)), 0);
+    done("insert 10:0/30:0", insert(0, LENT(p10_30), kind, value, value_length), 0);
     done("insert 10:0/30:0/40:0", insert_group(0, LENT(p10_30_40)), 0);
-    done("an update takes two", update(0, LENT(p10_30), DOSSIER_KIND_MEASURE, LENT(measure)), 2);
-    done("a delete takes two", delete(0, LENT(p10)), 2);
+    done("insert 10:0/30:0/35:16", insert_group(16, LENT(p10_30_35)), 0);
+}
+
+/* An update replaces one value and keeps what is below: the store is as if the element had been inserted so. */
+static void test_update(void)
+{
+    make_nested(DOSSIER_KIND_MEASURE, LENT(measure));
+    keep();
+    make_nested(DOSSIER_KIND_TEXT, (const uint8_t *)"SIXTEEN LETTERS.", 16);
+    done("an update replaces one", update(0, LENT(p10_30), DOSSIER_KIND_MEASURE, LENT(measure)), 1);
+    check("all else is kept", memcmp(store, kept, sizeof store) == 0);
+    refused("9:0 is not there to be updated", update(0, LENT(p9), DOSSIER_KIND_GROUP, none, 0), DOSSIER_REFUSED_ABSENT);
+    sees("0 still sees what is below", 0, "VIEW\t0\t3\n1\t10\t0\tP\tG\t-\n2\t30\t0\tP\tM\t-150\n3\t40\t0\tP\tG\t-\n");
+    sees("16 still sees what is below", 16,
+         "VIEW\t16\t4\n1\t10\t0\tP\tG\t-\n2\t30\t0\tP\tM\t-150\n3\t35\t16\tP\tG\t-\n3\t40\t0\tP\tG\t-\n");
+    done("an update of the one above", update(0, LENT(p10), DOSSIER_KIND_TEXT, (const uint8_t *)"PIECE", 5), 1);
+    sees("0 sees the text above", 0, "VIEW\t0\t3\n1\t10\t0\tP\tT\tPIECE\n2\t30\t0\tP\tM\t-150\n3\t40\t0\tP\tG\t-\n");
+}
+
+/* What an update and a delete count. */
+static void test_counts(void)
+{
+    make_nested(DOSSIER_KIND_GROUP, none, 0);
+    done("an update counts one", update(0, LENT(p10_30), DOSSIER_KIND_MEASURE, LENT(measure)), 1);
+    done("a delete takes three", delete(0, LENT(p10)), 3);
+    sees("16 sees what is left", 16, "VIEW\t16\t3\n1\t10\t0\tR\t-\t-\n2\t30\t0\tR\t-\t-\n3\t35\t16\tP\tG\t-\n");
+    done("a delete takes one", delete(16, LENT(p10_30_35)), 1);
     keep();
     memset(store, 0, sizeof store);
     check("the store is empty again", memcmp(store, kept, sizeof store) == 0);
@@ -349,6 +386,7 @@ int main(void)
     test_example();
     test_again();
     test_xml();
+    test_update();
     test_counts();
     test_store_length();
     test_subject();

@@ -1,4 +1,5 @@
-"""The calls through the module: document 01's example, every refusal, what is left untouched, and XML read back.
+"""The calls through the module: document 01's example, every refusal, what is left untouched, what an update keeps, and XML read
+back.
 
     python3 hosts/python/test_dossier.py
 """
@@ -64,6 +65,16 @@ def worked():
     store.insert(label(16), path((11, 16)), Text("&"))
     store.insert(label(0), path((10, 0), (7, 0)), Text("SLEEVE"))
     store.delete(label(0), path((10, 0)))
+    return store
+
+
+def nested(*values):
+    """A store with 10:0, 10:0/20:0 and 10:0/20:0/30:0 of these values, and 10:0/20:0/25:16, a measure."""
+    store = Store()
+    steps = path((10, 0), (20, 0), (30, 0))
+    for depth, value in enumerate(values, 1):
+        store.insert(label(0), steps[:depth], value)
+    store.insert(label(16), path((10, 0), (20, 0), (25, 16)), Measure(-150))
     return store
 
 
@@ -173,12 +184,33 @@ class Done(CallTest):
         values = [line.value for line in store.view(label(16), path((10, 0)))]
         self.assertEqual(values, [Text("SLEEVE"), Measure(-150)])
 
+    def seen(self, store, subject):
+        """What a subject sees of all: name and value of each line, in their order."""
+        return [(line.name, line.value) for line in store.view(label(subject))]
+
+    def test_update_keeps_what_is_below(self):
+        store = nested(Group(), Group(), Group())
+        self.assertEqual(store.update(label(0), path((10, 0)), Text("PIECE")), 1)
+        self.assertEqual(self.seen(store, 0), [(10, Text("PIECE")), (20, Group()), (30, Group())])
+        self.assertEqual(store.update(label(0), path((10, 0), (20, 0)), Measure(5)), 1)
+        self.assertEqual(self.seen(store, 0), [(10, Text("PIECE")), (20, Measure(5)), (30, Group())])
+        self.assertEqual(self.seen(store, 16), [(10, Text("PIECE")), (20, Measure(5)), (25, Measure(-150)), (30, Group())])
+        self.assertEqual(store.buffer, nested(Text("PIECE"), Measure(5), Group()).buffer)
+        self.assert_refused(7, raw.update, store.buffer, 0, b"\x0b\0\0", *GROUP)
+
+    def test_update_leaves_nothing_of_the_old_value(self):
+        store = nested(Group(), Group(), Group())
+        for value in Text("SIXTEEN LETTERS."), Text("A"), Measure(-(2**31)), Group():
+            self.assertEqual(store.update(label(0), path((10, 0), (20, 0)), value), 1)
+            self.assertEqual(store.buffer, nested(Group(), value, Group()).buffer)
+
     def test_counts(self):
-        store = Store()
-        for steps in [(10, 0)], [(10, 0), (30, 0)], [(10, 0), (30, 0), (40, 0)]:
-            self.assertEqual(store.insert(label(0), path(*steps), Group()), 0)
-        self.assertEqual(store.update(label(0), path((10, 0), (30, 0)), Measure(1)), 2)
-        self.assertEqual(store.delete(label(0), path((10, 0))), 2)
+        store = nested(Group(), Group(), Group())
+        self.assertEqual(store.update(label(0), path((10, 0), (20, 0)), Measure(1)), 1)
+        self.assertEqual(store.delete(label(0), path((10, 0))), 3)
+        self.assertEqual(self.seen(store, 0), [])
+        self.assertEqual(self.seen(store, 16), [(10, None), (20, None), (25, Measure(-150))])
+        self.assertEqual(store.delete(label(16), path((10, 0), (20, 0), (25, 16))), 1)
         self.assertEqual(store.buffer, Store().buffer)
 
     def test_lent_buffer_is_written_in_place(self):

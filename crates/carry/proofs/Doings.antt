@@ -161,7 +161,7 @@ answer-small s (read.the-variants.Insert v) p l b =
     (λ k. (omega arith, omega arith)) (λ a. (omega arith, omega arith))
 answer-small s (read.the-variants.Update v) p l b =
     outcome-either (by s (update p (contentOf (valueOf v l)))) (openModel b) (λ (x : Outcome). Small (x .answer .told .result) × (length (x .answer .written) ≤ 16384))
-    (λ k. (omega arith, omega arith)) (λ a. (extending-few (stepsOf p) s b, omega arith))
+    (λ k. (omega arith, omega arith)) (λ a. (omega arith, omega arith))
 answer-small s read.the-variants.Delete p l b =
     outcome-either (by s (delete p)) (openModel b) (λ (x : Outcome). Small (x .answer .told .result) × (length (x .answer .written) ≤ 16384))
     (λ k. (omega arith, omega arith)) (λ a. (extending-few (stepsOf p) s b, omega arith))

@@ -1,6 +1,7 @@
 // Delete: an element goes, with what the subject has below it.
 use crate::Answer;
 use table::Opening;
+use table::Owned;
 ghost use mathlib.Core.List.{[]};
 ghost use Rattle.model.specs.Call as calls;
 ghost use Rattle.model.specs.Call.{counted};
@@ -34,16 +35,14 @@ fn act(store: &mut [u8], label: u8, path: &[u8]) -> Answer
             count: 0,
         };
     }
-    let owned = table::own_live_row(store, label, path);
-    if owned != 0 {
-        return Answer {
-            number: owned,
-            count: 0,
-        };
-    }
-    let went = store::remove(store, label, path);
-    Answer {
-        number: 0,
-        count: went,
+    match table::own_slot(store, label, path) {
+        Owned::Refused(number) => Answer { number, count: 0 },
+        Owned::Slot(at) => {
+            let went = store::remove(store, label, at, path);
+            Answer {
+                number: 0,
+                count: went,
+            }
+        }
     }
 }

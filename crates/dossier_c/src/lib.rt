@@ -38,7 +38,7 @@ pub extern "C" fn dossier_insert(
     }
 }
 
-// Updates an element: it and all of the subject's label that extends it go, and it comes again with the other value. How many went.
+// Updates an element: it gets the kind and the value, and what is below it stays. It counts one, the element.
 #[no_mangle]
 pub extern "C" fn dossier_update(
     store: &mut [u8],

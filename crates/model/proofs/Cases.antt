@@ -21,7 +21,7 @@ use Rattle.model.specs.View.{visible, inView, listed, letter, shown, pat
 use Rattle.model.specs.Tree.{shownBelow, forest}
 use Rattle.model.specs.Xml.{escaped, startTag, endTag, valueXml, outerTag, document, xmlOf, xmlView}
 use Rattle.model.specs.Rows.{refusal, someRaw, goodPath, viewPath}
-use Rattle.model.specs.Call.{subjectOf, callerRows, opRows, table, Result, count as counts, Answer, Outcome, writes, changes, extending, added, effect, refused, done, outcome, after}
+use Rattle.model.specs.Call.{subjectOf, callerRows, opRows, table, Result, count as counts, Answer, Outcome, writes, changes, extending, added, replaced, effect, refused, done, outcome, after}
 use Rattle.model.specs.Run.{answerOf, storeAfter, corrupted, feed}
 use Rattle.model.specs.Script.{ScriptCall, stepText, callText, inRange, callOf, linesOf, unreadLine, answerLines, output}
 use Rattle.model.specs.Cases.{Expected, holds, Case, dominance, onStore, calls, script, storeAfterAll, AllHeld, Holds, markedCases, furtherCases, cases}
@@ -112,7 +112,7 @@ case-holds (script i o) t =
 -- ---- the whole table passes
 
 tested : T (all caseTest cases)
-unfolding sameResult sameAnswer emptyModel cases markedCases furtherCases isByte pad isLabel level sizing fabric cost includes dominates sameStep validStep validPath key isPrintable allowed storable bringable validElement contains closed remove pathBytes contentBytes slotBytes readPath readContent readSlot unusedZero layout slots readPartition wellFormedBy hasPartition partition replace isHeld elements openCell cellBytes openModel ownSet live decimal measureOf signed visible inView listed letter shown pathLine headLine listingOf listing shownBelow forest escaped startTag endTag valueXml outerTag document xmlOf xmlView subjectOf refusal someRaw goodPath viewPath callerRows opRows table writes changes extending added effect refused done outcome after answerOf storeAfter corrupted emptyStore callText inRange stepText callOf unreadLine answerLines isDigit callGuess stepGuess readable readLine
+unfolding sameResult sameAnswer emptyModel cases markedCases furtherCases isByte pad isLabel level sizing fabric cost includes dominates sameStep validStep validPath key isPrintable allowed storable bringable validElement contains closed remove pathBytes contentBytes slotBytes readPath readContent readSlot unusedZero layout slots readPartition wellFormedBy hasPartition partition replace isHeld elements openCell cellBytes openModel ownSet live decimal measureOf signed visible inView listed letter shown pathLine headLine listingOf listing shownBelow forest escaped startTag endTag valueXml outerTag document xmlOf xmlView subjectOf refusal someRaw goodPath viewPath callerRows opRows table writes changes extending added replaced effect refused done outcome after answerOf storeAfter corrupted emptyStore callText inRange stepText callOf unreadLine answerLines isDigit callGuess stepGuess readable readLine
 tested = tt
 
 -- each row of the table holds

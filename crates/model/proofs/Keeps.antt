@@ -3,27 +3,28 @@ use mathlib.Core.Path.{_≡_, subst}
 use mathlib.Core.Logic.{_⊎_, inl, inr}
 use mathlib.Core.Bool.{not, cond}
 use mathlib.Core.List.{List, [], _∷_, List·Memᴰ·not-nil}
-use Prim.Native.Nat.{ℕ, _≤_, _<_}
+use Prim.Native.Nat.{ℕ, _<_}
 use native.Mathlib.Omega.{arith}
 use lib.ListN.{length}
 use lib.Dec.{T}
 use Rattle.model.specs.Label.{labels, dominates}
 use Rattle.model.specs.Path.{Step, isPrefix, parent, endsIn, validPath, stepsOf, key}
 use Rattle.model.specs.Value.{Content, allowed, storable, bringable}
-use Rattle.model.specs.Element.{Element, validElement, contains, remove}
+use Rattle.model.specs.Element.{Element, validElement, contains}
 use Rattle.model.specs.Partition.{readPartition, wellFormed}
 use Rattle.model.specs.Store.{partition}
 use Rattle.model.specs.Model.{held, raw, elements, openCell, Model, openModel, ownSet}
 use Rattle.model.specs.View.{visible, inView}
 use Rattle.model.specs.Rows.{goodPath}
-use Rattle.model.specs.Call.{added}
+use Rattle.model.specs.Call.{added, replaced}
 use Rattle.model.specs.Lists.{_∈_}
 use Rattle.model.proofs.Bools.{and-l, and-r, both, decide, cond-yes, cond-no}
 use Rattle.model.proofs.Members.{all-in, any-in, gather-in}
 use Rattle.model.proofs.Dominance.{dominates-lower, dominates-antisym}
 use Rattle.model.proofs.Paths.{prefix-trans, prefix-parent, prefix-below}
 use Rattle.model.proofs.Partitions.{ValidSet, well-formed, read-valid}
-use Rattle.model.proofs.Sets.{closed-facts, remove-valid, remove-fewer, remove-lacks, remove-near, put-valid}
+use Rattle.model.proofs.Sets.{closed-facts, put-valid}
+use Rattle.model.proofs.Replacing.{replaced-valid}
 
 -- each set of the model is valid for its label
 abbrev pub ValidSets : Model → Type 0
@@ -97,12 +98,5 @@ module _ (s : ℕ) (m : Model) (sets : ValidSets m) where
       near q (inl h) t = inl h
       near q (inr h) t = inr (in-view-own s m (parent p) q sets iv h t)
 
-  pub update-valid : (p : List Step) (c : Content) → T (validElement s (record { path = p; content = c })) → T (contains (ownSet s m) p)
-      → ValidSet key s (added p c (remove p (ownSet s m)))
-  unfolding added
-  update-valid p c v on =
-      let few : length (remove p (ownSet s m)) < length (ownSet s m) = remove-fewer s p (ownSet s m) on in
-      let small : length (ownSet s m) ≤ 32 = sets s .few in
-      put-valid (record { path = p; content = c }) (remove p (ownSet s m)) (remove-lacks s p (ownSet s m)) s
-      (remove-valid s p (ownSet s m) (sets s)) v (omega arith)
-      (remove-near s p (ownSet s m) (closed-facts s (ownSet s m) (sets s .closes)) on)
+  pub update-valid : (p : List Step) (c : Content) → T (validElement s (record { path = p; content = c })) → ValidSet key s (replaced p c (ownSet s m))
+  update-valid p c v = replaced-valid s p c (ownSet s m) v (sets s)

@@ -9,6 +9,7 @@ pub mod Prefixes
 pub mod Slots
 pub mod Partitions
 pub mod Sets
+pub mod Replacing
 pub mod Stores
 pub mod Rows
 pub mod Restriction
@@ -16,6 +17,7 @@ pub mod Keeps
 pub mod Operations
 pub mod Noninterference
 pub mod Refusals
+pub mod Updates
 pub mod Marks
 pub mod Listings
 pub mod Trees

@@ -18,7 +18,7 @@ use Rattle.model.specs.Model.{Model, ownSet, live}
 use Rattle.model.specs.View.{visible, reaches, inView, listingOf, listing}
 use Rattle.model.specs.Xml.{xmlOf, xmlView}
 use Rattle.model.specs.Rows.{Row, row, refusal, goodPath, someRaw, sizeRows, pathRows, viewPathRows, lookRows, bringRows, ownLiveRows, placeRows, roomRows}
-use Rattle.model.specs.Call.{Op, view, insert, update, delete, viewXml, Call, callSubject, callerRows, opRows, table, Result, count, Effect, writes, changes, extending, added, effect, Outcome, refused, done, outcomeBy, outcome}
+use Rattle.model.specs.Call.{Op, view, insert, update, delete, viewXml, Call, callSubject, callerRows, opRows, table, Result, count, Effect, writes, changes, extending, added, replaced, effect, Outcome, refused, done, outcomeBy, outcome}
 use Rattle.model.proofs.Bools.{not-not}
 use Rattle.model.proofs.Partitions.{ValidSet}
 use Rattle.model.proofs.Sets.{remove-valid}
@@ -169,15 +169,15 @@ update-changes : (p : List ℕ) (c : Content) → Changing (update p c)
 unfolding opRows effect
 update-changes p c =
     record {
-      result = λ own. count (extending (stepsOf p) own);
-      set = λ own. added (stepsOf p) c (remove (stepsOf p) own);
+      result = λ own. count 1;
+      set = replaced (stepsOf p) c;
       effect-is = λ s m. refl;
       rows-local = λ s m t. refusal-behind (bringRows p c) _ _ (λ h. same-own-live s m t (stepsOf p));
       valid = λ s m sets h.
           let r = passes-both (bringRows p c) (ownLiveRows s m (stepsOf p)) h in
           let b : Brought p c = rows-brought p c (r .0) in
-          let q : T (endsIn s (stepsOf p)) × T (contains (ownSet s m) (stepsOf p)) = rows-own-live s m (stepsOf p) (r .1) in
-          update-valid s m sets (stepsOf p) c (element-valid s p c (b .path) (b .content) (q .0)) (q .1);
+          let own : T (endsIn s (stepsOf p)) = rows-own-live s m (stepsOf p) (r .1) .0 in
+          update-valid s m sets (stepsOf p) c (element-valid s p c (b .path) (b .content) own);
     }
 
 delete-changes : (p : List ℕ) → Changing (delete p)

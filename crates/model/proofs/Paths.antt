@@ -54,14 +54,6 @@ prefix-trans (a ∷ p) (b ∷ q) (c ∷ r) s t =
     (rw (step-eq a b (and-l (sameStep a b) (isPrefix p q) s)) (and-l (sameStep b c) (isPrefix q r) t))
     (prefix-trans p q r (and-r (sameStep a b) (isPrefix p q) s) (and-r (sameStep b c) (isPrefix q r) t))
 
-pub prefix-antisym : (p q : List Step) → T (isPrefix p q) → T (isPrefix q p) → p ≡ q
-prefix-antisym [] [] s t = refl
-prefix-antisym [] (b ∷ q) s t = absurd t
-prefix-antisym (a ∷ p) [] s t = absurd s
-prefix-antisym (a ∷ p) (b ∷ q) s t =
-    ap₂ (λ (x : Step) (y : List Step). x ∷ y) (step-eq a b (and-l (sameStep a b) (isPrefix p q) s))
-    (prefix-antisym p q (and-r (sameStep a b) (isPrefix p q) s) (and-r (sameStep b a) (isPrefix q p) t))
-
 pub parent-prefix : (p : List Step) → T (isPrefix (parent p) p)
 parent-prefix [] = tt
 parent-prefix (a ∷ []) = tt

@@ -3,7 +3,7 @@
 use mathlib.Core.Path.{_≡_}
 use mathlib.Core.Logic.{_⊎_, inl, inr}
 use mathlib.Core.Bool.{Bool, not, _||_}
-use mathlib.Core.List.{List, [], _∷_, List·Memᴰ·cases-cons, List·Memᴰ·not-nil}
+use mathlib.Core.List.{List, [], _∷_}
 use Prim.Native.Nat.{ℕ, suc, _≤_, _<_}
 use native.Mathlib.Omega.{arith}
 use lib.ListN.{length}
@@ -13,10 +13,10 @@ use Rattle.model.specs.Lists.{all, keep, _∈_}
 use Rattle.model.specs.Sets.{put}
 use Rattle.model.specs.Path.{Step, samePath, isPrefix, prefixes, endsIn, key}
 use Rattle.model.specs.Element.{Element, rank, validElement, contains, closed, remove}
-use Rattle.model.proofs.Bools.{or-l, or-r, decide, cond-yes, cond-no, yes-not-not}
+use Rattle.model.proofs.Bools.{or-l, or-r, decide, cond-yes, cond-no}
 use Rattle.model.proofs.Members.{all-in, in-all, any-in, in-any, not-any, keep-in, in-keep}
 use Rattle.model.proofs.Order.{ascending-sorted, sorted-ascending, sorted-keep, sorted-put, put-in, in-put, put-new, length-put, Fresh}
-use Rattle.model.proofs.Paths.{same-eq, same-refl, prefix-refl, prefix-trans, prefix-antisym, in-prefixes, prefixes-in, keys-injective, key-keyed}
+use Rattle.model.proofs.Paths.{same-eq, same-refl, prefix-trans, in-prefixes, prefixes-in, keys-injective, key-keyed}
 use Rattle.model.proofs.Partitions.{ValidSet}
 
 -- ---- a valid set, by its members
@@ -65,22 +65,6 @@ length-keep k (d ∷ l) =
     (λ (h : T (k d)). rw (cond-yes (k d) (d ∷ keep k l) (keep k l) h) (omega arith))
     (λ (h : T (not (k d))). rw (cond-no (k d) (d ∷ keep k l) (keep k l) h) (omega arith))
 
--- a member that is not kept leaves fewer
-keep-fewer : (k : Element → Bool) (l : List Element) {x : Element} → x ∈ l → T (not (k x)) → length (keep k l) < length l
-keep-fewer k [] m t = absurd (List·Memᴰ·not-nil m)
-keep-fewer k (d ∷ l) {x} m t = go (List·Memᴰ·cases-cons m) (λ (j : x ∈ l). keep-fewer k l j t)
-  where
-    g : length (keep k l) ≤ length l
-    g = length-keep k l
-
-    go : (x ≡ d) ⊎ (x ∈ l) → (x ∈ l → length (keep k l) < length l) → length (keep k (d ∷ l)) < length (d ∷ l)
-    go (inl e) f = rw (cond-no (k d) (d ∷ keep k l) (keep k l) (rw e at t)) (omega (arith, g))
-    go (inr j) f =
-        let r : length (keep k l) < length l = f j in
-        decide (k d)
-        (λ (h : T (k d)). rw (cond-yes (k d) (d ∷ keep k l) (keep k l) h) (omega arith))
-        (λ (h : T (not (k d))). rw (cond-no (k d) (d ∷ keep k l) (keep k l) h) (omega arith))
-
 module _ (n : ℕ) (p : List Step) (es : List Element) where
   stays : Element → Bool
   stays e = not (isPrefix p (e .path))
@@ -111,32 +95,6 @@ module _ (n : ℕ) (p : List Step) (es : List Element) where
         ascends = sorted-ascending rank (keep stays es) (sorted-keep rank stays es (ascending-sorted rank es (f .ascends)));
         closes = facts-closed n (keep stays es) (remove-closes (closed-facts n es (f .closes)));
       }
-
-  pub remove-fewer : T (contains es p) → length (remove p es) < length es
-  unfolding remove stays
-  remove-fewer t =
-      let r : (d : Element) × (d ∈ es) × (p ≡ d .path) = contains-in es p t in
-      keep-fewer stays es (r .1) (rw (← (r .2)) (yes-not-not (isPrefix p p) (prefix-refl p)))
-
-  -- the proper prefixes of a removed path stay
-  pub remove-near : Closed n es → T (contains es p) → (q : List Step) → T (isPrefix q p) → T (endsIn n q)
-      → (q ≡ p) ⊎ T (contains (remove p es) q)
-  unfolding remove stays
-  remove-near f t q b s =
-      let r : (d : Element) × (d ∈ es) × (p ≡ d .path) = contains-in es p t in
-      let g : (d : Element) × (d ∈ es) × (q ≡ d .path) = contains-in es q (f (r .0) (r .1) q (rw (r .2) at b) s) in
-      decide (isPrefix p q)
-      (λ (h : T (isPrefix p q)). inl (prefix-antisym q p b h))
-      (λ (h : T (not (isPrefix p q))). inr (rw (g .2) (in-contains (keep stays es) (g .0) (in-keep stays es (g .1) (rw (g .2) at h)))))
-
-  pub remove-lacks : T (not (contains (remove p es) p))
-  unfolding remove stays
-  remove-lacks =
-      decide (contains (remove p es) p)
-      (λ (t : T (contains (remove p es) p)).
-      let r : (d : Element) × (d ∈ keep stays es) × (p ≡ d .path) = contains-in (keep stays es) p t in
-      absurd (T-not (isPrefix p (r .0 .path)) (rw (← (r .2)) (prefix-refl p)) (keep-in stays es (r .1) .1)))
-      (λ (t : T (not (contains (remove p es) p))). t)
 
 -- ---- putting an element in
 

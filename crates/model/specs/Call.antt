@@ -1,11 +1,12 @@
 -- The calls, their rows of the table, and what each does (document 01, "The four calls" and "Whole runs and the book"; document 02).
+use mathlib.Core.Bool.{cond}
 use mathlib.Core.Option.{Option, none, some}
-use mathlib.Core.List.{List, [], _++_}
+use mathlib.Core.List.{List, [], _++_, map}
 use Prim.Native.Nat.{ℕ}
 use lib.ListN.{length}
 use Rattle.model.specs.Lists.{keep}
 use Rattle.model.specs.Sets.{put}
-use Rattle.model.specs.Path.{Step, isPrefix, stepsOf}
+use Rattle.model.specs.Path.{Step, samePath, isPrefix, stepsOf}
 use Rattle.model.specs.Value.{Content}
 use Rattle.model.specs.Element.{Element, rank, remove}
 use Rattle.model.specs.Model.{Model, ownSet, withSet}
@@ -103,10 +104,14 @@ extending p es = length (keep (λ e. isPrefix p (e .path)) es)
 unfoldable pub added : List Step → Content → List Element → List Element
 added p c es = put rank (record { path = p; content = c }) es
 
+-- the set in which the element at the path has another content, and each other element is as it was
+unfoldable pub replaced : List Step → Content → List Element → List Element
+replaced p c es = map (λ e. cond (samePath p (e .path)) (record { path = p; content = c }) e) es
+
 unfoldable pub effect : Op → ℕ → Model → Effect
 effect (view p room) s m = writes (count (length (listing s m (stepsOf p)))) (listing s m (stepsOf p))
 effect (insert p c) s m = changes (count 0) (added (stepsOf p) c (ownSet s m))
-effect (update p c) s m = changes (count (extending (stepsOf p) (ownSet s m))) (added (stepsOf p) c (remove (stepsOf p) (ownSet s m)))
+effect (update p c) s m = changes (count 1) (replaced (stepsOf p) c (ownSet s m))
 effect (delete p) s m = changes (count (extending (stepsOf p) (ownSet s m))) (remove (stepsOf p) (ownSet s m))
 effect (viewXml p room) s m = writes (count (length (xmlView s m (stepsOf p)))) (xmlView s m (stepsOf p))
 

@@ -199,9 +199,17 @@ furtherCases =
     -- an update under a removed parent
     ∷ calls listingCalls (by 16 (update p20 (measure 7 0 0 0))) (counted 1)
     (holds 16 ((1 ∷ 0 ∷ 0 ∷ 0 ∷ []) ++ slot 2 (10 ∷ 0 ∷ 20 ∷ zeros 9) (0 ∷ 16 ∷ zeros 4) 1 4 (7 ∷ zeros 18)) ∷ holds 0 [] ∷ [])
-    -- an update of an element with two more of its label below, and the view after it
-    ∷ calls nested updateTop (counted 3) []
-    ∷ calls (nested ++ (updateTop ∷ [])) (by 0 (view [] 16384)) (printed 21 "VIEW\t0\t1\n1\t1\t0\tP\tT\tA\n") []
+    -- an update of an element with two more of its label and one of a higher label below: they stay, in the bytes and in the view; a
+    -- delete takes the two
+    ∷ calls nested updateTop (counted 1)
+    (holds 0
+    ((3 ∷ 0 ∷ 0 ∷ 0 ∷ [])
+    ++ slot 1 (1 ∷ zeros 11) (zeros 6) 2 1 (65 ∷ zeros 18)
+    ++ slot 2 (1 ∷ 0 ∷ 2 ∷ zeros 9) (zeros 6) 0 0 (zeros 19)
+    ++ slot 2 (1 ∷ 0 ∷ 3 ∷ zeros 9) (zeros 6) 0 0 (zeros 19)) ∷ [])
+    ∷ calls (nested ++ (updateTop ∷ [])) (by 16 (view [] 16384))
+    (printed 59 "VIEW\t16\t4\n1\t1\t0\tP\tT\tA\n2\t2\t0\tP\tG\t-\n3\t4\t16\tP\tG\t-\n2\t3\t0\tP\tG\t-\n") []
+    ∷ calls (nested ++ (updateTop ∷ [])) deleteTop (counted 3) (holds 0 [] ∷ [])
     -- the 32nd insert of a label is done, and makes a full partition: an insert is refused there; an update is done, and another
     -- label's insert
     ∷ calls (range numbered 1 31) (numbered 32) (counted 0) []

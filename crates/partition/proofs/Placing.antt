@@ -1,9 +1,10 @@
--- A set cut where a path stands: an element put in goes there, and what is removed stands there without a gap.
-use mathlib.Core.Path.{_≡_, refl, sym, ap, _∙_}
+-- A set cut where a path stands: an element put in goes there, what is removed stands there without a gap, and the element there is
+-- the one that gets another content.
+use mathlib.Core.Path.{_≡_, refl, sym, ap, ap₂, _∙_}
 use mathlib.Core.Logic.{_⊎_, inl, inr}
 use mathlib.Core.Bool.{Bool, true, false, not, cond}
 use mathlib.Core.List.{List, [], _∷_, _++_, List·Memᴰ·head, List·Memᴰ·tail, List·Memᴰ·cases-cons, List·Memᴰ·not-nil}
-use Prim.Native.Nat.{ℕ, suc, _+_, _≤_}
+use Prim.Native.Nat.{ℕ, suc, _+_, _≤_, _<_}
 use native.Mathlib.Omega.{arith}
 use lib.ListN.{length, take, drop}
 use lib.Seq.{length-take-le, drop-drop}
@@ -12,15 +13,16 @@ use mir.Facts.{or-no, not-T, T-not}
 use Rattle.model.specs.Lists.{any, keep, _∈_}
 use Rattle.model.specs.Sets.{put, sorted, ahead}
 use Rattle.model.specs.Path.{Step, samePath, isPrefix, key, pathRank}
+use Rattle.model.specs.Value.{Content}
 use Rattle.model.specs.Element.{Element, rank, contains, remove}
-use Rattle.model.specs.Call.{extending}
-use Rattle.model.proofs.Bools.{and-l, and-r, decide, is-true, is-false}
+use Rattle.model.specs.Call.{extending, replaced}
+use Rattle.model.proofs.Bools.{and-l, and-r, decide, cond-yes, cond-no, is-true, is-false}
 use Rattle.model.proofs.Members.{all-in}
 use Rattle.model.proofs.Order.{precedes-irrefl, precedes-trans}
 use Rattle.model.proofs.Sets.{contains-in}
 use Rattle.model.proofs.Paths.{same-eq, same-refl, prefix-first, between-extends, order-total, key-keyed}
 use Rattle.path.specs.Common.{isBefore}
-use Rattle.partition.specs.Place.{placeOf}
+use Rattle.partition.specs.Place.{placeOf, replacedAt}
 use Rattle.partition.proofs.Linking.{not-back}
 
 -- ---- the place
@@ -200,3 +202,55 @@ module _ (p : List Step) (e : Element) (es : List Element) where
           let r : (d : Element) × (d ∈ es) × (p ≡ d .path) = contains-in es p u in
           let a : T (isBefore (e .path) (r .0 .path)) = all-in (λ x. isBefore (e .path) (x .path)) es (and-l (ahead rank e es) (sorted rank es) s) (r .1) in
           precedes-irrefl (pathRank p) (precedes-trans (pathRank p) (pathRank (e .path)) (pathRank p) (first t) (rw (r .2) a))
+
+-- ---- giving another content
+
+-- where no element has the path, none gets it
+replaced-none : (p : List Step) (c : Content) (es : List Element) → T (not (contains es p)) → replaced p c es ≡ es
+unfolding contains replaced
+replaced-none p c [] t = refl
+replaced-none p c (e ∷ es) t =
+    let n = or-no (samePath p (e .path)) (any (λ d. samePath p (d .path)) es) t in
+    ap₂ (λ (d : Element) (l : List Element). d ∷ l)
+    (cond-no (samePath p (e .path)) (record { path = p; content = c }) e (n .0)) (replaced-none p c es (n .1))
+
+-- an element that has the path stands at its place, and is the one that gets the content
+pub record Stands (p : List Step) (c : Content) (es : List Element) : Type 0 where
+  pub within : placeOf p es < length es
+  pub is : replacedAt (placeOf p es) c es ≡ replaced p c es
+
+pub stands : (p : List Step) (c : Content) (es : List Element) → T (sorted rank es) → T (contains es p) → Stands p c es
+unfolding replaced
+stands p c [] s t = absurd (List·Memᴰ·not-nil (contains-in [] p t .1))
+stands p c (e ∷ es) s t =
+    decide (isBefore (e .path) p)
+    (λ (b : T (isBefore (e .path) p)).
+    let y : isBefore (e .path) p ≡ true = is-true (isBefore (e .path) p) b in
+    let q : T (not (samePath p (e .path))) =
+    not-T (samePath p (e .path)) (λ u. precedes-irrefl (pathRank p) (rw (← (same-eq p (e .path) u)) at b)) in
+    let r : Stands p c es = stands p c es (and-r (ahead rank e es) (sorted rank es) s) (rw (contains-after p e es b) at t) in
+    let w : placeOf p es < length es = r .within in
+    record {
+      within = rw y (omega arith);
+      is = rw y (ap₂ (λ (d : Element) (l : List Element). d ∷ l) (sym (cond-no (samePath p (e .path)) (record { path = p; content = c }) e q)) (r .is));
+    })
+    (λ (b : T (not (isBefore (e .path) p))).
+    let n : isBefore (e .path) p ≡ false = is-false (isBefore (e .path) p) b in
+    let q : T (samePath p (e .path)) = rw (contains-here p e es s b) at t in
+    let z : p ≡ e .path = same-eq p (e .path) q in
+    record {
+      within = rw n (omega arith);
+      is =
+          rw n
+          (ap₂ (λ (d : Element) (l : List Element). d ∷ l)
+          (ap (λ (x : List Step). record { path = x; content = c }) (sym z) ∙ sym (cond-yes (samePath p (e .path)) (record { path = p; content = c }) e q))
+          (sym (replaced-none p c es (once z))));
+    })
+  where
+    -- no element behind it has its path
+    once : p ≡ e .path → T (not (contains es p))
+    once z =
+        not-T (contains es p)
+        (λ u. let r : (d : Element) × (d ∈ es) × (p ≡ d .path) = contains-in es p u in
+        let a : T (isBefore (e .path) (r .0 .path)) = all-in (λ x. isBefore (e .path) (x .path)) es (and-l (ahead rank e es) (sorted rank es) s) (r .1) in
+        precedes-irrefl (pathRank p) (rw (← z, ← (r .2)) at a))

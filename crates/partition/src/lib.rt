@@ -234,12 +234,12 @@ pub fn insert(part: &mut [u8], at: usize, path: &[u8], kind: u8, value: &[u8])
     part[0] = c + 1;
 }
 
-// Gives the element in slot at, which has the path, another kind and value.
+// Gives the element in slot at another kind and value: its path and the other slots stay.
 pub fn replace(part: &mut [u8], at: usize, kind: u8, value: &[u8])
     requires { ⌜ Formed (now part) × (at < count (now part)) × (length (now value) ≤ 16) ⌝ }
     ensures { λ _. ⌜ now (part .exit) ≡ layout (replacedAt at (record { kind = kind; value = now (value .entry) }) (readPartition (now (part .entry)))) ⌝ }
 {
-    let start = 4 + 40 * at;
-    let end = start + 40;
-    slot_write::replace_content(&mut part[start..end], kind, value);
+    let from = 4 + 40 * at;
+    let to = from + 40;
+    slot_write::replace_content(&mut part[from..to], kind, value);
 }

@@ -4,23 +4,25 @@ use mathlib.Core.Bool.{Bool}
 use mathlib.Core.List.{List, _++_}
 use Prim.Native.Nat.{ℕ, _+_, _-_, _*_, _<_}
 use native.Mathlib.Omega.{arith}
-use lib.ListN.{take, drop}
+use lib.ListN.{length, take, drop}
 use lib.Dec.{T}
 use borrow.Rule.Slice.PartMut.{putMid, post-is}
 use Rattle.model.specs.Label.{dominates}
 use Rattle.model.specs.Path.{Step}
-use Rattle.model.specs.Value.{Content}
-use Rattle.model.specs.Element.{Element, remove}
-use Rattle.model.specs.Partition.{layout, readPartition, wellFormed}
+use Rattle.model.specs.Element.{Element}
+use Rattle.model.specs.Partition.{layout, count, readPartition, wellFormed}
 use Rattle.model.specs.Store.{partition, replace}
 use Rattle.model.specs.Model.{openModel, ownSet}
-use Rattle.model.specs.Call.{extending, added}
 use Rattle.model.proofs.Dominance.{dominates-refl}
 use Rattle.model.proofs.Stores.{yes-has, replace-placed}
 use Rattle.partition.specs.Place.{Formed, placeOf, Found, Room}
 use Rattle.partition.proofs.Layouts.{length-elements}
 use Rattle.store.specs.Opened.{Own, Vacant}
 use Rattle.store.proofs.Parts.{held-formed, formed-set, part-lent}
+
+-- what is lent of a store, from the subject's place on
+abbrev lentPart : ℕ → List ℕ → List ℕ
+lentPart k b = take (1284 * k + 1284 - 1284 * k) (drop (1284 * k) b)
 
 -- the subject's own partition
 module _ {b : List ℕ} {s : ℕ} (o : Own b s) where
@@ -38,44 +40,44 @@ module _ {b : List ℕ} {s : ℕ} (o : Own b s) where
   own-part e = record { label = s; is = rw e own-formed }
 
   module _ {k : ℕ} (i : (k ≡ s) × (k < 256)) where
-    pub own-lent : take (1284 * k + 1284 - 1284 * k) (drop (1284 * k) b) ≡ partition s b
+    own-lent : lentPart k b ≡ partition s b
     own-lent = part-lent s s b (o .size) own-dominated i .0
 
-    -- the store with x where the part was
-    pub wrote : (x : List ℕ) → putMid (1284 * k) (1284 * k + 1284 - 1284 * k) b x ≡ replace s x b
-    wrote x =
+    pub lent-formed : Formed (lentPart k b)
+    lent-formed = own-part own-lent
+
+    -- what is lent holds the subject's set
+    pub lent-set : readPartition (lentPart k b) ≡ ownSet s (openModel b)
+    lent-set = ap readPartition own-lent ∙ sym own-set
+
+    lent-count : length (ownSet s (openModel b)) ≡ count (lentPart k b)
+    lent-count = ap length (sym lent-set) ∙ length-elements lent-formed
+
+    -- a place in the set is the place in what is lent, and a slot of the set is used there
+    pub lent-place : (p : List Step) {at : ℕ} → at ≡ placeOf p (ownSet s (openModel b)) → at ≡ placeOf p (readPartition (lentPart k b))
+    lent-place p e = e ∙ ap (placeOf p) (sym lent-set)
+
+    pub lent-used : {at : ℕ} → at < length (ownSet s (openModel b)) → at < count (lentPart k b)
+    lent-used h = omega (arith, h, lent-count)
+
+    -- the store with a changed set in place of what was lent
+    pub own-changed : (f : List Element → List Element) {x : List ℕ} → x ≡ layout (f (readPartition (lentPart k b)))
+        → putMid (1284 * k) (1284 * k + 1284 - 1284 * k) b x ≡ replace s (layout (f (ownSet s (openModel b)))) b
+    own-changed f {x} g =
         ap (λ (l : List ℕ). take (1284 * k) b ++ (x ++ l)) (post-is (1284 * k) (1284 * k + 1284) b (omega arith))
         ∙ ap (λ (n : ℕ). take (1284 * n) b ++ (x ++ drop (1284 * n + 1284) b)) (i .0)
         ∙ sym (replace-placed s x b (yes-has s b (o .size) (o .label)))
-
-    -- the place that was found in the part is the place in what is lent
-    pub own-place : (p : List Step) {x : List ℕ} {at : ℕ} {found : Bool} → x ≡ partition s b → Found x p at found
-        → at ≡ placeOf p (readPartition (take (1284 * k + 1284 - 1284 * k) (drop (1284 * k) b)))
-    own-place p e f = f .at-is ∙ ap (λ (l : List ℕ). placeOf p (readPartition l)) (e ∙ sym own-lent)
-
-    pub own-removed : (p : List Step) {r : ℕ} {x : List ℕ}
-        → (r ≡ extending p (readPartition (take (1284 * k + 1284 - 1284 * k) (drop (1284 * k) b)))) × (x ≡ layout (remove p (readPartition (take (1284 * k + 1284 - 1284 * k) (drop (1284 * k) b)))))
-        → (r ≡ extending p (ownSet s (openModel b))) × (putMid (1284 * k) (1284 * k + 1284 - 1284 * k) b x ≡ replace s (layout (remove p (ownSet s (openModel b)))) b)
-    own-removed p {r} {x} g =
-        let e : readPartition (take (1284 * k + 1284 - 1284 * k) (drop (1284 * k) b)) ≡ ownSet s (openModel b) = ap readPartition own-lent ∙ sym own-set in
-        (g .0 ∙ ap (extending p) e, wrote x ∙ ap (λ (l : List ℕ). replace s l b) (g .1 ∙ ap (λ (es : List Element). layout (remove p es)) e))
-
-    pub own-added : (p : List Step) (c : Content) {x : List ℕ}
-        → x ≡ layout (added p c (readPartition (take (1284 * k + 1284 - 1284 * k) (drop (1284 * k) b))))
-        → putMid (1284 * k) (1284 * k + 1284 - 1284 * k) b x ≡ replace s (layout (added p c (ownSet s (openModel b)))) b
-    own-added p c {x} g =
-        let e : readPartition (take (1284 * k + 1284 - 1284 * k) (drop (1284 * k) b)) ≡ ownSet s (openModel b) = ap readPartition own-lent ∙ sym own-set in
-        wrote x ∙ ap (λ (l : List ℕ). replace s l b) (g ∙ ap (λ (es : List Element). layout (added p c es)) e)
+        ∙ ap (λ (l : List ℕ). replace s l b) (g ∙ ap (λ (es : List Element). layout (f es)) lent-set)
 
 -- the part that is lent has room
 pub own-room : {b : List ℕ} {s : ℕ} (p : List Step) (v : Vacant b s p) {k : ℕ} (i : (k ≡ s) × (k < 256)) {x : List ℕ} {at : ℕ} {found : Bool}
-    → x ≡ partition s b → Found x p at found → Room (take (1284 * k + 1284 - 1284 * k) (drop (1284 * k) b)) at p
+    → x ≡ partition s b → Found x p at found → Room (lentPart k b) at p
 own-room {b} {s} p v {k} i e f =
-    let q : ownSet s (openModel b) ≡ readPartition (take (1284 * k + 1284 - 1284 * k) (drop (1284 * k) b)) = own-set (v .own) ∙ ap readPartition (sym (own-lent (v .own) i)) in
-    let g : Formed (take (1284 * k + 1284 - 1284 * k) (drop (1284 * k) b)) = own-part (v .own) (own-lent (v .own) i) in
+    let q : ownSet s (openModel b) ≡ readPartition (lentPart k b) = sym (lent-set (v .own) i) in
+    let g : Formed (lentPart k b) = lent-formed (v .own) i in
     record {
       formed = g;
       free = rw (← (length-elements g), ← q) (v .free);
-      place = own-place (v .own) i p e f;
+      place = lent-place (v .own) i p (f .at-is ∙ ap (λ (l : List ℕ). placeOf p (readPartition l)) e ∙ ap (placeOf p) (sym (own-set (v .own))));
       lacks = rw (← q) (v .lacks);
     }

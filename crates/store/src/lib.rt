@@ -3,6 +3,7 @@ mod writing;
 
 pub use writing::insert;
 pub use writing::remove;
+pub use writing::replace;
 ghost use mathlib.Core.Path.{_≡_};
 ghost use mathlib.Core.Bool.{not, _&&_};
 ghost use Prim.Native.Nat.{_≤_, _<_};

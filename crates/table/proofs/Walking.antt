@@ -16,12 +16,12 @@ use Rattle.model.specs.Partition.{partitionSize, count, readPartition}
 use Rattle.model.specs.Store.{storeSize, partition}
 use Rattle.model.specs.Model.{ownSet, live, openModel}
 use Rattle.model.specs.View.{inView}
-use Rattle.model.specs.Rows.{row, goodPath, viewPath, someRaw, sizeRows, labelRows}
+use Rattle.model.specs.Rows.{goodPath, viewPath, someRaw, sizeRows, labelRows}
 use Rattle.model.proofs.Bools.{yes-not-not}
 use Rattle.model.proofs.Dominance.{dominates-refl}
 use Rattle.model.proofs.Restriction.{live-own}
 use Rattle.model.proofs.Rows.{row-applies, rows-behind}
-use Rattle.partition.specs.Place.{Found}
+use Rattle.partition.specs.Place.{placeOf, Found}
 use Rattle.partition.proofs.Layouts.{length-elements}
 use Rattle.store.specs.Opened.{Opened, Own}
 use Rattle.store.proofs.Parts.{held-formed}
@@ -104,6 +104,10 @@ module _ {s : ℕ} {b : List ℕ} (o : Opened b s) {x : List ℕ} (g : (x ≡ pa
   found-live p {r} e own h =
       let q : T (endsIn s p) = told-yes e (not-false r own) in
       h .found-is ∙ ap (λ (es : List Element). contains es p) (sym own-set) ∙ sym (live-own s (openModel b) p q)
+
+  -- where it is found is where it stands in the own set
+  pub found-place : (p : List Step) {at : ℕ} {f : Bool} → Found x p at f → at ≡ placeOf p (ownSet s (openModel b))
+  found-place p h = h .at-is ∙ ap (placeOf p) (sym own-set)
 
   pub counted : {n : ℕ} → (n ≡ count x) × (n < 256) → n ≡ length (ownSet s (openModel b))
   counted k = k .0 ∙ sym (ap length own-set ∙ length-elements (own-part (opened-own o) (g .0)))

@@ -1,11 +1,12 @@
-// The table of refusals walked in groups that calls share: the number of the first row of a group that applies, or 0. Nothing is
-// written here.
+// The table of refusals walked in groups that calls share: the number of the first row of a group that applies, or 0, or what is gone
+// on with. Nothing is written here.
 mod look;
 mod own;
 
 pub use look::is_view_path;
 pub use look::look_row;
-pub use own::own_live_row;
+pub use own::Owned;
+pub use own::own_slot;
 ghost use mathlib.Core.Path.{_≡_};
 ghost use lib.Dec.{T};
 ghost use Rattle.model.specs.Path.{stepsOf};

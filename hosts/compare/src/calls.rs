@@ -51,7 +51,7 @@ pub fn insert(store: &mut [u8], subject: u32, path: &[u8], kind: u32, value: &[u
     answer(try_insert(store, subject, path, kind, value))
 }
 
-/// Takes an element, and what extends it, from the subject's partition and puts it back with the new value.
+/// Gives an element another value and leaves all else, what extends it included.
 pub fn update(store: &mut [u8], subject: u32, path: &[u8], kind: u32, value: &[u8]) -> Answer {
     answer(try_update(store, subject, path, kind, value))
 }
@@ -103,9 +103,9 @@ fn try_update(store: &mut [u8], subject: u32, path: &[u8], kind: u32, value: &[u
     let path = element_path(path)?;
     Value::read(kind, value).ok_or(Refusal::Value)?;
     own_path(subject, &path)?;
-    let (at, taken) = take(store, subject, &path)?;
-    partition::put_slot(store, subject, at, &partition::slot_of(&path, kind as u8, value));
-    Ok(taken)
+    let at = live_at(store, subject, &path)?;
+    partition::put_content(store, subject, at, &partition::content_of(kind as u8, value));
+    Ok(1)
 }
 
 /// The delete, or why it is refused.
@@ -113,7 +113,9 @@ fn try_delete(store: &mut [u8], subject: u32, path: &[u8]) -> Result<usize, Refu
     let subject = subject_of(store, subject)?;
     let path = element_path(path)?;
     own_path(subject, &path)?;
-    let (_, taken) = take(store, subject, &path)?;
+    let at = live_at(store, subject, &path)?;
+    let taken = partition(store, subject).below(&path).1.count();
+    partition::take_slots(store, subject, at, taken);
     Ok(taken)
 }
 
@@ -144,11 +146,7 @@ fn is_in_view(store: &[u8], subject: u8, path: &Path) -> bool {
     path.depth() == 0 || dominated(store, subject).any(|part| part.below(path).1.next().is_some())
 }
 
-/// Takes a live element and what extends it: where it stood, and how many were taken.
-fn take(store: &mut [u8], subject: u8, path: &Path) -> Result<(usize, usize), Refusal> {
-    let own = partition(store, subject);
-    let at = own.find(path).map_err(|_| Refusal::Absent)?;
-    let taken = own.below(path).1.count();
-    partition::take_slots(store, subject, at, taken);
-    Ok((at, taken))
+/// Row 7 of an update and a delete: where the element stands in the subject's partition.
+fn live_at(store: &[u8], subject: u8, path: &Path) -> Result<usize, Refusal> {
+    partition(store, subject).find(path).map_err(|_| Refusal::Absent)
 }

@@ -1,5 +1,6 @@
 //! Document 01 as a Rust program: the store's bytes, the four calls, the printed view and the call runner; and of
-//! document 02 the view as XML. It is written from the documents alone and shares nothing with the product.
+//! document 02 the view as XML and the update that keeps what is below. It is written from the documents alone and
+//! shares nothing with the product.
 
 pub mod calls;
 pub mod label;

@@ -23,7 +23,9 @@ const KIND: usize = 19;
 /// Where in a slot the value's length stands.
 const LENGTH: usize = 20;
 /// Where in a slot the value begins.
-const VALUE: usize = 21;
+pub const VALUE: usize = 21;
+/// The bytes of a slot's content: the kind, the value's length and the value.
+pub const CONTENT: usize = VALUE + LONGEST - KIND;
 
 /// The bytes that free slots must equal.
 static ZEROS: [u8; PARTITION] = [0; PARTITION];
@@ -79,10 +81,17 @@ pub fn slot_of(path: &Path, kind: u8, value: &[u8]) -> [u8; SLOT] {
         slot[NAMES + 2 * at..NAMES + 2 * at + 2].copy_from_slice(&step.name.to_le_bytes());
         slot[LABELS + at] = step.label;
     }
-    slot[KIND] = kind;
-    slot[LENGTH] = value.len() as u8;
-    slot[VALUE..VALUE + value.len()].copy_from_slice(value);
+    slot[KIND..KIND + CONTENT].copy_from_slice(&content_of(kind, value));
     slot
+}
+
+/// The content's bytes of a slot for an element with this kind and value.
+pub fn content_of(kind: u8, value: &[u8]) -> [u8; CONTENT] {
+    let mut content = [0; CONTENT];
+    content[0] = kind;
+    content[LENGTH - KIND] = value.len() as u8;
+    content[VALUE - KIND..][..value.len()].copy_from_slice(value);
+    content
 }
 
 /// Whether all these bytes are zero, at most a partition's.
@@ -175,6 +184,12 @@ pub fn put_slot(store: &mut [u8], label: u8, at: usize, slot: &[u8; SLOT]) {
     slots.copy_within(at..count, at + 1);
     slots[at] = *slot;
     bytes[0] += 1;
+}
+
+/// Lays another content into the slot at this place of a partition.
+pub fn put_content(store: &mut [u8], label: u8, at: usize, content: &[u8; CONTENT]) {
+    let slots = partition_mut(store, label)[HEAD..].as_chunks_mut::<SLOT>().0;
+    slots[at][KIND..KIND + CONTENT].copy_from_slice(content);
 }
 
 /// Takes this many slots from a partition, from this place on.

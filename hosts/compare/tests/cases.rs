@@ -1,9 +1,10 @@
-//! Document 01's test cuts and examples of XML, run on the Rust program, and its well-formedness test, listing and XML
-//! against plain definitions.
+//! Document 01's test cuts and examples of XML and of updates, run on the Rust program, and its well-formedness test,
+//! listing, XML and updates against plain definitions.
 use reference::label::{LABELS, dominates};
 use reference::partition::{PARTITION, partition};
 use reference::path::{Path, Step};
 use reference::random::Random;
+use reference::value::{GROUP, MEASURE, TEXT, Value};
 use reference::{STORE, delete, insert, script, update, view, view_xml};
 use std::collections::BTreeMap;
 
@@ -15,6 +16,19 @@ fn path(steps: &[(u16, u8)]) -> Vec<u8> {
 /// Inserts a group: the answer's number.
 fn group(store: &mut [u8], subject: u32, steps: &[(u16, u8)]) -> u32 {
     insert(store, subject, &path(steps), 0, &[]).number
+}
+
+/// Updates an element: the answer's number and count.
+fn updated(store: &mut [u8], subject: u32, steps: &[(u16, u8)], kind: u32, value: &[u8]) -> (u32, u64) {
+    let answer = update(store, subject, &path(steps), kind, value);
+    (answer.number, answer.count)
+}
+
+/// What a subject sees of all, with a space for a tab and a semicolon for the end of a line.
+fn seen(store: &[u8], subject: u32) -> String {
+    let mut output = [0; 1000];
+    let count = view(store, subject, &[], &mut output).count as usize;
+    String::from_utf8_lossy(&output[..count]).replace('\t', " ").replace('\n', ";")
 }
 
 /// What the runner prints for a script.
@@ -79,8 +93,58 @@ fn an_update_whose_parent_is_in_view_through_it_alone() {
     group(&mut store, 8, &[(1, 0), (2, 8)]);
     group(&mut store, 8, &[(1, 0), (2, 8), (3, 8)]);
     delete(&mut store, 0, &path(&[(1, 0)]));
-    let answer = update(&mut store, 8, &path(&[(1, 0), (2, 8)]), 2, b"NEW");
-    assert_eq!((answer.number, answer.count), (0, 2));
+    assert_eq!(updated(&mut store, 8, &[(1, 0), (2, 8)], TEXT, b"NEW"), (0, 1));
+    assert_eq!(seen(&store, 8), "VIEW 8 3;1 1 0 R - -;2 2 8 P T NEW;3 3 8 P G -;");
+}
+
+#[test]
+fn examples_of_updates() {
+    let mut store = vec![0; STORE];
+    let [piece, inside, deep] = [&[(10, 0)][..], &[(10, 0), (20, 0)], &[(10, 0), (20, 0), (30, 0)]];
+    for steps in [piece, inside, deep] {
+        assert_eq!(group(&mut store, 0, steps), 0);
+    }
+    assert_eq!(updated(&mut store, 0, piece, TEXT, b"PIECE"), (0, 1));
+    assert_eq!(seen(&store, 0), "VIEW 0 3;1 10 0 P T PIECE;2 20 0 P G -;3 30 0 P G -;");
+    assert_eq!(updated(&mut store, 0, inside, MEASURE, &5_i32.to_le_bytes()), (0, 1));
+    assert_eq!(seen(&store, 0), "VIEW 0 3;1 10 0 P T PIECE;2 20 0 P M 5;3 30 0 P G -;");
+    let before = store.clone();
+    assert_eq!(updated(&mut store, 0, &[(11, 0)], GROUP, &[]), (7, 0));
+    assert!(store == before);
+    let answer = delete(&mut store, 0, &path(piece));
+    assert_eq!((answer.number, answer.count), (0, 3));
+    assert_eq!(seen(&store, 0), "VIEW 0 0;");
+}
+
+#[test]
+fn an_update_keeps_what_is_below() {
+    let mut store = vec![0; STORE];
+    let piece = [(10, 8), (20, 8)];
+    for (subject, steps) in [
+        (8, &[(10, 8)][..]),
+        (8, &piece),
+        (8, &[(10, 8), (20, 8), (1, 8)]),
+        (24, &[(10, 8), (20, 8), (1, 24)]),
+        (24, &[(10, 8), (20, 8), (1, 24), (2, 24)]),
+        (8, &[(10, 8), (20, 8), (9, 8)]),
+        (8, &[(10, 8), (21, 8)]),
+    ] {
+        assert_eq!(group(&mut store, subject, steps), 0);
+    }
+    for (kind, value, shown) in [
+        (TEXT, &b"SIXTEEN LETTERS."[..], "T SIXTEEN LETTERS."),
+        (TEXT, b"X", "T X"),
+        (MEASURE, &[0; 4], "M 0"),
+        (GROUP, b"", "G -"),
+    ] {
+        assert_eq!(updated(&mut store, 8, &piece, kind, value), (0, 1));
+        let top = format!("1 10 8 P G -;2 20 8 P {shown};");
+        let below = ["3 1 8 P G -;", "3 1 24 P G -;4 2 24 P G -;", "3 9 8 P G -;"];
+        assert_eq!(seen(&store, 8), format!("VIEW 8 5;{top}{}{}2 21 8 P G -;", below[0], below[2]));
+        assert_eq!(seen(&store, 24), format!("VIEW 24 7;{top}{}2 21 8 P G -;", below.concat()));
+    }
+    assert_eq!(delete(&mut store, 8, &path(&piece)).count, 3);
+    assert_eq!(seen(&store, 24), "VIEW 24 5;1 10 8 P G -;2 20 8 R - -;3 1 24 P G -;4 2 24 P G -;2 21 8 P G -;");
 }
 
 /// The document's script.
@@ -158,6 +222,31 @@ fn grown(random: &mut Random) -> Vec<u8> {
         }
     }
     store
+}
+
+/// Every element's path and, in words, its value.
+fn elements(store: &[u8]) -> BTreeMap<Path, String> {
+    let slots = (0..LABELS).flat_map(|label| partition(store, label).slots());
+    slots.map(|slot| (slot.path(), format!("{:?}", slot.value()))).collect()
+}
+
+#[test]
+fn an_update_changes_one_value_alone() {
+    let mut random = Random::new(7);
+    let mut store = grown(&mut random);
+    for _ in 0..500 {
+        let mut expected = elements(&store);
+        let paths: Vec<Path> = expected.keys().copied().collect();
+        let path = random.pick(&paths);
+        let (kind, bytes, length) = (random.below(3), [b'a' + random.below(26) as u8; 16], 1 + random.below(16));
+        let value = &bytes[..[0, 4, length][kind]];
+        let label = path.label().expect("an element's path");
+        let answer = update(&mut store, label.into(), &path.bytes(), kind as u32, value);
+        assert_eq!((answer.number, answer.count), (0, 1));
+        expected.insert(path, format!("{:?}", Value::read(kind as u32, value)));
+        assert_eq!(elements(&store), expected);
+        assert!((0..LABELS).all(|label| partition(&store, label).is_well_formed()));
+    }
 }
 
 /// The listed steps by the document's words: each dominated live path and its beginnings, once each, and if it is live.

@@ -109,7 +109,7 @@ def insert(store, subject, path, kind, value):
 
 
 def update(store, subject, path, kind, value):
-    """Deletes as delete does and puts the element back with another value. Count: how many elements were taken."""
+    """Replaces the value of a live element and keeps all else, what stands below it too. Count: 1, the element replaced."""
     return _bring(_library.dossier_update, store, subject, path, kind, value)
 
 

@@ -33,7 +33,8 @@ class Store:
         return raw.insert(self.buffer, subject.number, path_bytes(path), value.kind, value.to_bytes()).outcome()
 
     def update(self, subject, path, value):
-        """Deletes as delete does and puts the element back with another value. The count: how many elements were taken."""
+        """Replaces the value of a live element, its kind too, and keeps all else: what stands below it stays, whatever its label.
+        The count: 1, the element replaced."""
         return raw.update(self.buffer, subject.number, path_bytes(path), value.kind, value.to_bytes()).outcome()
 
     def delete(self, subject, path):

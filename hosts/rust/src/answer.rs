@@ -9,7 +9,7 @@ use std::fmt;
 pub struct Answer {
     /// 0 if the call is done, else the number of the refusal.
     pub number: u32,
-    /// The bytes that a view wrote, or the elements that a delete or an update took; else 0.
+    /// The bytes that a view wrote, the elements that a delete took, or 1 for the element that an update replaced; else 0.
     pub count: u64,
 }
 

@@ -93,7 +93,7 @@ pub fn insert(store: &mut [u8], subject: u32, path: &[u8], kind: u32, value: &[u
     }
 }
 
-/// Deletes as [`delete`] does and puts the element back with another value. Count: how many elements were taken.
+/// Replaces the value of a live element and keeps all else, what stands below it too. Count: 1, the element replaced.
 pub fn update(store: &mut [u8], subject: u32, path: &[u8], kind: u32, value: &[u8]) -> Answer {
     // SAFETY: each pointer reaches as many bytes as its length says; the store overlaps nothing, being a `&mut`.
     unsafe {

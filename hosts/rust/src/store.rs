@@ -90,8 +90,8 @@ impl Store<'_> {
         answer.outcome()
     }
 
-    /// Deletes as [`delete`](Store::delete) does and puts the element back with another value. The count: how many elements were
-    /// taken.
+    /// Replaces the value of a live element, its kind too, and keeps all else: what stands below it stays, whatever its label.
+    /// The count: 1, the element replaced.
     pub fn update(&mut self, subject: Label, path: &Path, value: Value<'_>) -> Result<u64, Error> {
         let bytes = self.as_mut_bytes();
         let answer =

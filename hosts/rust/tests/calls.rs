@@ -1,4 +1,5 @@
-//! The calls through the package: document 01's example, every refusal, what is left untouched, and XML read back.
+//! The calls through the package: document 01's example, every refusal, what is left untouched, what an update keeps, and XML
+//! read back.
 
 use dossier::{
     raw, Answer, Error, Label, Line, Mark, Path, Refusal, Store, Value, LISTING_BYTES_MAX, PARTITION_BYTES, STORE_BYTES,
@@ -127,14 +128,54 @@ fn a_removed_element_comes_again() {
     assert_eq!(values, Ok(vec![Some(Value::Text("SLEEVE")), Some(Value::Measure(-150))]));
 }
 
-#[test]
-fn updates_and_deletes_count_what_they_take() {
+/// A store with 10:0, 10:0/20:0 and 10:0/20:0/30:0 of these values, and 10:0/20:0/25:16, a measure.
+fn nested(values: [Value; 3]) -> Store<'static> {
     let mut store = Store::empty();
-    for steps in [&[(10, 0)][..], &[(10, 0), (30, 0)], &[(10, 0), (30, 0), (40, 0)]] {
-        assert_eq!(store.insert(label(0), &path(steps), Value::Group), Ok(0));
+    let steps = [(10, 0), (20, 0), (30, 0)];
+    for (depth, value) in (1..).zip(values) {
+        assert_eq!(store.insert(label(0), &path(&steps[..depth]), value), Ok(0));
     }
-    assert_eq!(store.update(label(0), &path(&[(10, 0), (30, 0)]), Value::Measure(1)), Ok(2));
-    assert_eq!(store.delete(label(0), &path(&[(10, 0)])), Ok(2));
+    assert_eq!(store.insert(label(16), &path(&[(10, 0), (20, 0), (25, 16)]), Value::Measure(-150)), Ok(0));
+    store
+}
+
+/// What a subject sees of all.
+fn seen(store: &Store, subject: u32) -> String {
+    let mut output = [0; 256];
+    let view = store.view(label(subject), &Path::root(), &mut output).expect("a view");
+    String::from_utf8_lossy(view.listing()).into_owned()
+}
+
+#[test]
+fn an_update_keeps_what_is_below() {
+    let mut store = nested([Value::Group; 3]);
+    assert_eq!(store.update(label(0), &path(&[(10, 0)]), Value::Text("PIECE")), Ok(1));
+    assert_eq!(seen(&store, 0), "VIEW\t0\t3\n1\t10\t0\tP\tT\tPIECE\n2\t20\t0\tP\tG\t-\n3\t30\t0\tP\tG\t-\n");
+    assert_eq!(store.update(label(0), &path(&[(10, 0), (20, 0)]), Value::Measure(5)), Ok(1));
+    assert_eq!(seen(&store, 0), "VIEW\t0\t3\n1\t10\t0\tP\tT\tPIECE\n2\t20\t0\tP\tM\t5\n3\t30\t0\tP\tG\t-\n");
+    let above = "1\t10\t0\tP\tT\tPIECE\n2\t20\t0\tP\tM\t5\n";
+    assert_eq!(seen(&store, 16), format!("VIEW\t16\t4\n{above}3\t25\t16\tP\tM\t-150\n3\t30\t0\tP\tG\t-\n"));
+    assert!(store.as_bytes() == nested([Value::Text("PIECE"), Value::Measure(5), Value::Group]).as_bytes());
+    assert_refused(store.as_mut_bytes(), 0, Call::Update(&[11, 0, 0], 0, &[]), 7);
+}
+
+#[test]
+fn an_update_leaves_nothing_of_the_old_value() {
+    let mut store = nested([Value::Group; 3]);
+    for value in [Value::Text("SIXTEEN LETTERS."), Value::Text("A"), Value::Measure(i32::MIN), Value::Group] {
+        assert_eq!(store.update(label(0), &path(&[(10, 0), (20, 0)]), value), Ok(1));
+        assert!(store.as_bytes() == nested([Value::Group, value, Value::Group]).as_bytes(), "{value:?}");
+    }
+}
+
+#[test]
+fn deletes_count_what_they_take() {
+    let mut store = nested([Value::Group; 3]);
+    assert_eq!(store.update(label(0), &path(&[(10, 0), (20, 0)]), Value::Measure(1)), Ok(1));
+    assert_eq!(store.delete(label(0), &path(&[(10, 0)])), Ok(3));
+    assert_eq!(seen(&store, 0), "VIEW\t0\t0\n");
+    assert_eq!(seen(&store, 16), "VIEW\t16\t3\n1\t10\t0\tR\t-\t-\n2\t20\t0\tR\t-\t-\n3\t25\t16\tP\tM\t-150\n");
+    assert_eq!(store.delete(label(16), &path(&[(10, 0), (20, 0), (25, 16)])), Ok(1));
     assert!(store.as_bytes() == Store::empty().as_bytes());
 }
 

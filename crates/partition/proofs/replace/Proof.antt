@@ -10,9 +10,9 @@ pub replace-spec : {M : Type 1} → statement M
 replace-spec =
     tie.close
     (tie.spec
-    (λ c. omega (arith, c .before .before .pre .1, facts (c .before .before .pre .0)))  -- mul-start
-    (λ c. omega (arith, c .before .before .pre .1, facts (c .before .before .pre .0)))  -- add-start
-    (λ c. omega (arith, c .before .before .pre .1, facts (c .before .before .pre .0)))  -- add-end
+    (λ c. omega (arith, c .before .before .pre .1, facts (c .before .before .pre .0)))  -- mul-from
+    (λ c. omega (arith, c .before .before .pre .1, facts (c .before .before .pre .0)))  -- add-from
+    (λ c. omega (arith, c .before .before .pre .1, facts (c .before .before .pre .0)))  -- add-to
     (λ c. search needs)  -- sub-replace-content
     (λ c. search needs)  -- part-replace-content-start
     (λ c. omega (arith, c .before .before .pre .1, facts (c .before .before .pre .0)))  -- part-replace-content-end

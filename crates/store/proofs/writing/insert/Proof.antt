@@ -2,8 +2,9 @@
 use borrow.Author.Needs.{needs}
 use native.Mathlib.Omega.{arith}
 use Rattle.model.specs.Path.{stepsOf}
+use Rattle.model.specs.Call.{added}
 use Rattle.model.proofs.Dominance.{label-lt}
-use Rattle.store.proofs.Lending.{own-dominated, own-part, own-room, own-added}
+use Rattle.store.proofs.Lending.{own-dominated, own-part, own-room, own-changed}
 use Rattle.store.proofs.writing.insert.Statement.{statement}
 use Rattle.store.proofs.writing.insert.Tie as tie
 
@@ -30,5 +31,5 @@ insert-spec =
     -- returns
     (λ c.
     let start = c .before .before .before .before .before .before .before .before .before .before .before in
-    own-added (start .pre .0 .own) (c .before .before .before .before .index .ensures) (stepsOf (start .args .path .now)) _ (c .before .before .insert .ensures))
+    own-changed (start .pre .0 .own) (c .before .before .before .before .index .ensures) (added (stepsOf (start .args .path .now)) _) (c .before .before .insert .ensures))
     )

@@ -2,12 +2,13 @@
 use crate::generate::XML_ROOMY;
 use crate::side::{Call, Name, Side, product};
 use reference::label::LABELS;
-use reference::partition::{HEAD, PARTITION, SLOT, SLOTS, partition};
+use reference::partition::{HEAD, PARTITION, SLOT, SLOTS, VALUE, partition};
+use reference::path::Path;
 use reference::value::Value;
 use reference::{Answer, STORE};
 
 /// Each fault and what it does.
-pub const FAULTS: [(&str, Side); 15] = [
+pub const FAULTS: [(&str, Side); 19] = [
     ("a refused view writes the output's first byte", writes_when_refused),
     ("a view writes the byte behind its listing", writes_behind),
     ("a refused call writes the store's last byte", writes_store_when_refused),
@@ -15,6 +16,10 @@ pub const FAULTS: [(&str, Side); 15] = [
     ("all 32 partitions are tested", tests_all),
     ("the dominated partitions' free bytes are not tested", spares_free_bytes),
     ("an update is two public calls", two_calls),
+    ("an update takes what is below", takes_below),
+    ("an update counts what is below", counts_below),
+    ("an update writes the content of the next slot", writes_next),
+    ("an update leaves the end of a longer value", leaves_end),
     ("the subject is cut to a byte", cuts_subject),
     ("the kind is cut to a byte", cuts_kind),
     ("a partition is full with 31", full_early),
@@ -95,14 +100,67 @@ fn spares_free_bytes(call: &Call, store: &mut [u8], output: &mut [u8]) -> Answer
     answer
 }
 
-/// Deletes and inserts where an update is asked for.
+/// The subject's paths from that of an update on, in their order; none if the call is another or is refused.
+fn from_updated(call: &Call, store: &[u8]) -> Vec<Path> {
+    let path = Path::read(&call.path).filter(|_| call.name == Name::Update && foreseen(call, store) == 0);
+    let Some(path) = path else { return Vec::new() };
+    partition(store, call.subject as u8).slots().map(|slot| slot.path()).filter(|held| *held >= path).collect()
+}
+
+/// The subject's paths that extend that of an update.
+fn below_updated(call: &Call, store: &[u8]) -> Vec<Path> {
+    let paths = from_updated(call, store);
+    paths.iter().skip(1).take_while(|path| path.extends(&paths[0])).copied().collect()
+}
+
+/// Deletes and inserts where an update is asked for and nothing of the subject's label is below.
 fn two_calls(call: &Call, store: &mut [u8], output: &mut [u8]) -> Answer {
-    if call.name != Name::Update || foreseen(call, store) != 0 {
+    if from_updated(call, store).is_empty() || !below_updated(call, store).is_empty() {
         return product(call, store, output);
     }
     let taken = product(&Call { name: Name::Delete, ..call.clone() }, store, output);
     let put = product(&Call { name: Name::Insert, ..call.clone() }, store, output);
     if put.number == 0 { taken } else { put }
+}
+
+/// Deletes what is below an updated element.
+fn takes_below(call: &Call, store: &mut [u8], output: &mut [u8]) -> Answer {
+    let below = below_updated(call, store);
+    let answer = product(call, store, output);
+    for path in below {
+        product(&Call { name: Name::Delete, path: path.bytes(), ..call.clone() }, store, output);
+    }
+    answer
+}
+
+/// Counts what is below an updated element.
+fn counts_below(call: &Call, store: &mut [u8], output: &mut [u8]) -> Answer {
+    let below = below_updated(call, store).len() as u64;
+    let answer = product(call, store, output);
+    Answer { count: answer.count + below, ..answer }
+}
+
+/// Updates the element behind the one that is asked for, if there is one.
+fn writes_next(call: &Call, store: &mut [u8], output: &mut [u8]) -> Answer {
+    match from_updated(call, store).get(1) {
+        Some(next) => product(&Call { path: next.bytes(), ..call.clone() }, store, output),
+        None => product(call, store, output),
+    }
+}
+
+/// Lays back what stood behind the end of an updated value.
+fn leaves_end(call: &Call, store: &mut [u8], output: &mut [u8]) -> Answer {
+    let saved = store.to_vec();
+    let answer = product(call, store, output);
+    if (call.name, answer.number) == (Name::Update, 0) {
+        for (at, (byte, old)) in store.iter_mut().zip(saved).enumerate() {
+            let in_slot = (at % PARTITION).saturating_sub(HEAD) % SLOT;
+            if in_slot >= VALUE + call.value.len() {
+                *byte = old;
+            }
+        }
+    }
+    answer
 }
 
 /// Takes the subject's lowest byte alone.
