@@ -185,16 +185,16 @@ class Done(CallTest):
         self.assertEqual(values, [Text("SLEEVE"), Measure(-150)])
 
     def seen(self, store, subject):
-        """What a subject sees of all: name and value of each line, in their order."""
-        return [(line.name, line.value) for line in store.view(label(subject))]
+        """What a subject sees of all, with a space for a tab and a semicolon for the end of a line."""
+        return bytes(store.view(label(subject)).listing).decode().replace("\t", " ").replace("\n", ";")
 
     def test_update_keeps_what_is_below(self):
         store = nested(Group(), Group(), Group())
         self.assertEqual(store.update(label(0), path((10, 0)), Text("PIECE")), 1)
-        self.assertEqual(self.seen(store, 0), [(10, Text("PIECE")), (20, Group()), (30, Group())])
+        self.assertEqual(self.seen(store, 0), "VIEW 0 3;1 10 0 P T PIECE;2 20 0 P G -;3 30 0 P G -;")
         self.assertEqual(store.update(label(0), path((10, 0), (20, 0)), Measure(5)), 1)
-        self.assertEqual(self.seen(store, 0), [(10, Text("PIECE")), (20, Measure(5)), (30, Group())])
-        self.assertEqual(self.seen(store, 16), [(10, Text("PIECE")), (20, Measure(5)), (25, Measure(-150)), (30, Group())])
+        self.assertEqual(self.seen(store, 0), "VIEW 0 3;1 10 0 P T PIECE;2 20 0 P M 5;3 30 0 P G -;")
+        self.assertEqual(self.seen(store, 16), "VIEW 16 4;1 10 0 P T PIECE;2 20 0 P M 5;3 25 16 P M -150;3 30 0 P G -;")
         self.assertEqual(store.buffer, nested(Text("PIECE"), Measure(5), Group()).buffer)
         self.assert_refused(7, raw.update, store.buffer, 0, b"\x0b\0\0", *GROUP)
 
@@ -208,8 +208,8 @@ class Done(CallTest):
         store = nested(Group(), Group(), Group())
         self.assertEqual(store.update(label(0), path((10, 0), (20, 0)), Measure(1)), 1)
         self.assertEqual(store.delete(label(0), path((10, 0))), 3)
-        self.assertEqual(self.seen(store, 0), [])
-        self.assertEqual(self.seen(store, 16), [(10, None), (20, None), (25, Measure(-150))])
+        self.assertEqual(self.seen(store, 0), "VIEW 0 0;")
+        self.assertEqual(self.seen(store, 16), "VIEW 16 3;1 10 0 R - -;2 20 0 R - -;3 25 16 P M -150;")
         self.assertEqual(store.delete(label(16), path((10, 0), (20, 0), (25, 16))), 1)
         self.assertEqual(store.buffer, Store().buffer)
 

@@ -1,4 +1,5 @@
--- The empty store, all zero, opens as the model of empty sets; so what calls give on that model they give on the bytes.
+-- A store after calls opens as the model that it opened as does after them. The empty store, all zero, opens as the model of empty
+-- sets; so what calls give on that model they give on the bytes.
 use mathlib.Core.Path.{_≡_, refl, sym, ap, _∙_}
 use mathlib.Core.Bool.{Bool, true, false, not, cond, _&&_}
 use mathlib.Core.List.{List, [], _∷_, map}
@@ -10,7 +11,7 @@ use Rattle.model.specs.Lists.{pad}
 use Rattle.model.specs.Label.{isLabel, dominates}
 use Rattle.model.specs.Partition.{partitionSize, layout, wellFormedBy}
 use Rattle.model.specs.Store.{storeSize, partitionStart, hasPartition, partition, emptyStore}
-use Rattle.model.specs.Model.{held, raw, openCell, Model, openModel}
+use Rattle.model.specs.Model.{held, raw, elements, openCell, Model, openModel, ownSet}
 use Rattle.model.specs.Call.{Call, callSubject, after}
 use Rattle.model.specs.Run.{storeAfter, call, run, remains, feed}
 use Rattle.model.proofs.Bools.{or-r, decide, cond-yes, cond-no}
@@ -61,7 +62,7 @@ open-empty = λ i. record { size = length-empty i; cell = λ n. one n i }
         (λ (t : T (not (isLabel n))).
         ap (openCell n) (no-partition n t) ∙ sym (cond-no (isLabel n) (held []) (raw []) t))
 
--- ---- calls from the empty store
+-- ---- calls on a store and on the model that it opens as, and calls from the empty store
 
 -- the observer 31 is told of every call
 pub all-remain : (c : Call) → T (remains 31 c)
@@ -74,6 +75,11 @@ all-remain c =
 pub agree-open : (o : ℕ) (s : List ℕ) → Agree o s (openModel s)
 unfolding openModel
 agree-open o s = record { sizes = refl; cells = λ n d. refl }
+
+-- so the store after a call opens with the sets of the model after it
+pub opens-after : (c : Call) (s : List ℕ) (n : ℕ) → T (isLabel n) → ownSet n (openModel (storeAfter c s)) ≡ ownSet n (after c (openModel s))
+unfolding ownSet openModel
+opens-after c s n t = ap elements (agree-seen call-lawful 31 c s (openModel s) (all-remain c) (agree-open 31 s) .cells n (top-label n t))
 
 -- a store and a model that agree for him still do after any calls
 pub agree-calls : (cs : List Call) (s : List ℕ) (m : Model) → Agree 31 s m → Agree 31 (run (map call cs) s) (feed cs m)

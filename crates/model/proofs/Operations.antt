@@ -18,7 +18,8 @@ use Rattle.model.specs.Model.{Model, ownSet, live}
 use Rattle.model.specs.View.{visible, reaches, inView, listingOf, listing}
 use Rattle.model.specs.Xml.{xmlOf, xmlView}
 use Rattle.model.specs.Rows.{Row, row, refusal, goodPath, someRaw, sizeRows, pathRows, viewPathRows, lookRows, bringRows, ownLiveRows, placeRows, roomRows}
-use Rattle.model.specs.Call.{Op, view, insert, update, delete, viewXml, Call, callSubject, callerRows, opRows, table, Result, count, Effect, writes, changes, extending, added, replaced, effect, Outcome, refused, done, outcomeBy, outcome}
+use Rattle.model.specs.Call.{Op, view, insert, update, delete, viewXml, Call, callSubject, callerRows, opRows, table}
+use Rattle.model.specs.Call.{Result, count, Effect, writes, changes, extending, added, replaced, effect, Outcome, refused, done, outcomeBy, outcome}
 use Rattle.model.proofs.Bools.{not-not}
 use Rattle.model.proofs.Partitions.{ValidSet}
 use Rattle.model.proofs.Sets.{remove-valid}

@@ -99,7 +99,7 @@ module _ (p : List Step) (c : Content) where
   replaced-paths [] = refl
   replaced-paths (e ∷ es) = ap₂ (λ (q : List Step) (ps : List (List Step)). q ∷ ps) (become-path e) (replaced-paths es)
 
-  -- an element of another path is there exactly if it was
+  -- an element of another path stays
   pub replaced-others : (es : List Element) {e : Element} → T (not (samePath p (e .path))) → e ∈ es → e ∈ replaced p c es
   unfolding replaced become
   replaced-others es {e} t m = subst (λ (d : Element). d ∈ map become es) (become-other e t) (in-map become es m)

@@ -94,6 +94,9 @@ higher10 = by 16 (insert (path (step 10 16 ∷ [])) group)
 abbrev listingCalls : List Call
 listingCalls = insert10 ∷ by 16 (insert p20 (measure 106 255 255 255)) ∷ by 0 (delete p10) ∷ []
 
+abbrev update20 : Call
+update20 = by 16 (update p20 (measure 7 0 0 0))
+
 abbrev sleeve : Call
 sleeve = by 0 (insert p10 (text "SLEEVE"))
 
@@ -133,6 +136,10 @@ numbered n = by 0 (insert (path (step n 0 ∷ [])) group)
 
 abbrev full : List Call
 full = range numbered 1 32
+
+-- 1:0 and 31 elements below it
+abbrev fullBelow : List Call
+fullBelow = numbered 1 ∷ range (λ n. by 0 (insert (path (step 1 0 ∷ step n 0 ∷ [])) group)) 1 31
 
 -- five steps, and the calls that make them and two elements of label 31 below
 abbrev five : List Step
@@ -197,10 +204,13 @@ furtherCases =
     -- a higher version does not hinder an insert
     ∷ calls (higher10 ∷ []) insert10 (counted 0) []
     -- an update under a removed parent
-    ∷ calls listingCalls (by 16 (update p20 (measure 7 0 0 0))) (counted 1)
+    ∷ calls listingCalls update20 (counted 1)
     (holds 16 ((1 ∷ 0 ∷ 0 ∷ 0 ∷ []) ++ slot 2 (10 ∷ 0 ∷ 20 ∷ zeros 9) (0 ∷ 16 ∷ zeros 4) 1 4 (7 ∷ zeros 18)) ∷ holds 0 [] ∷ [])
+    -- the same with an element below, in the view after it
+    ∷ calls (xmlCalls ++ (update20 ∷ [])) (by 16 (view p20 16384))
+    (printed 47 "VIEW\t16\t2\n2\t20\t16\tP\tM\t7\n3\t5\t16\tP\tT\ta<b & \"c\">d\n") []
     -- an update of an element with two more of its label and one of a higher label below: they stay, in the bytes and in the view; a
-    -- delete takes the two
+    -- delete takes it with the two
     ∷ calls nested updateTop (counted 1)
     (holds 0
     ((3 ∷ 0 ∷ 0 ∷ 0 ∷ [])
@@ -210,11 +220,12 @@ furtherCases =
     ∷ calls (nested ++ (updateTop ∷ [])) (by 16 (view [] 16384))
     (printed 59 "VIEW\t16\t4\n1\t1\t0\tP\tT\tA\n2\t2\t0\tP\tG\t-\n3\t4\t16\tP\tG\t-\n2\t3\t0\tP\tG\t-\n") []
     ∷ calls (nested ++ (updateTop ∷ [])) deleteTop (counted 3) (holds 0 [] ∷ [])
-    -- the 32nd insert of a label is done, and makes a full partition: an insert is refused there; an update is done, and another
-    -- label's insert
+    -- the 32nd insert of a label is done, and makes a full partition: an insert is refused there; an update is done, and leaves it
+    -- full, with what is below its element; another label's insert is done
     ∷ calls (range numbered 1 31) (numbered 32) (counted 0) []
     ∷ calls full (numbered 33) (refusedBy 9) []
     ∷ calls full (by 0 (update (path (step 5 0 ∷ [])) (text "A"))) (counted 1) []
+    ∷ calls (fullBelow ++ (updateTop ∷ [])) (numbered 33) (refusedBy 9) []
     ∷ calls full (by 16 (insert (path (step 33 16 ∷ [])) group)) (counted 0) []
     -- a delete with elements of its label and a higher one below, and the view after it
     ∷ calls nested deleteTop (counted 3)

@@ -20,7 +20,7 @@ use Rattle.partition.proofs.Layouts.{length-elements}
 use Rattle.store.specs.Opened.{Own, Vacant}
 use Rattle.store.proofs.Parts.{held-formed, formed-set, part-lent}
 
--- what is lent of a store, from the subject's place on
+-- the part of a store that is lent for label k
 abbrev lentPart : ℕ → List ℕ → List ℕ
 lentPart k b = take (1284 * k + 1284 - 1284 * k) (drop (1284 * k) b)
 
