@@ -112,7 +112,14 @@ case-holds (script i o) t =
 -- ---- the whole table passes
 
 tested : T (all caseTest cases)
-unfolding sameResult sameAnswer emptyModel cases markedCases furtherCases isByte pad isLabel level sizing fabric cost includes dominates sameStep validStep validPath key isPrintable allowed storable bringable validElement contains closed remove pathBytes contentBytes slotBytes readPath readContent readSlot unusedZero layout slots readPartition wellFormedBy hasPartition partition replace isHeld elements openCell cellBytes openModel ownSet live decimal measureOf signed visible inView listed letter shown pathLine headLine listingOf listing shownBelow forest escaped startTag endTag valueXml outerTag document xmlOf xmlView subjectOf refusal someRaw goodPath viewPath callerRows opRows table writes changes extending added replaced effect refused done outcome after answerOf storeAfter corrupted emptyStore callText inRange stepText callOf unreadLine answerLines isDigit callGuess stepGuess readable readLine
+unfolding sameResult sameAnswer emptyModel cases markedCases furtherCases isByte pad isLabel level sizing fabric cost includes
+    dominates sameStep validStep validPath key isPrintable allowed storable bringable validElement contains closed remove
+    pathBytes contentBytes slotBytes readPath readContent readSlot unusedZero layout slots readPartition wellFormedBy hasPartition
+    partition replace isHeld elements openCell cellBytes openModel ownSet live decimal measureOf signed visible inView listed
+    letter shown pathLine headLine listingOf listing shownBelow forest escaped startTag endTag valueXml outerTag document xmlOf
+    xmlView subjectOf refusal someRaw goodPath viewPath callerRows opRows table writes changes extending added replaced effect
+    refused done outcome after answerOf storeAfter corrupted emptyStore callText inRange stepText callOf unreadLine answerLines
+    isDigit callGuess stepGuess readable readLine
 tested = tt
 
 -- each row of the table holds

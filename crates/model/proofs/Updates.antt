@@ -4,7 +4,7 @@ use mathlib.Core.Path.{_≡_, refl, sym, ap, _∙_}
 use mathlib.Core.Logic.{_⊎_, inl, inr}
 use mathlib.Core.Bool.{Bool, true, false, not, cond}
 use mathlib.Core.Option.{Option, none, some}
-use mathlib.Core.List.{List, [], _∷_, _++_, map}
+use mathlib.Core.List.{List, [], _∷_, _++_, map-append}
 use Prim.Native.Nat.{ℕ}
 use lib.Dec.{T, eqb, eqb-refl}
 use mir.Facts.{not-T, T-not, eqb-yes}
@@ -29,10 +29,6 @@ use Rattle.model.proofs.Refusals.{outcome-by}
 
 pub SamePaths : Model → Model → Type 0
 SamePaths m k = (n : ℕ) → pathsOf (ownSet n m) ≡ pathsOf (ownSet n k)
-
-map-append : {A B : Type 0} (f : A → B) (l m : List A) → map f (l ++ m) ≡ map f l ++ map f m
-map-append f [] m = refl
-map-append {A} {B} f (x ∷ l) m = ap (λ (r : List B). f x ∷ r) (map-append f l m)
 
 paths-gather : (f : ℕ → List Element) (ns : List ℕ) → pathsOf (gather f ns) ≡ gather (λ n. pathsOf (f n)) ns
 paths-gather f [] = refl

@@ -17,7 +17,7 @@ use Rattle.model.specs.Element.{Element, rank, validElement, contains, closed}
 use Rattle.model.proofs.Bools.{and-l, and-r, both, or-l, or-r, decide, same-test}
 use Rattle.model.proofs.Members.{all-in, in-front, in-back}
 use Rattle.model.proofs.Dominance.{dominates-lower, dominates-antisym}
-use Rattle.model.proofs.Order.{precedes-irrefl, precedes-trans, ascending-sorted}
+use Rattle.model.proofs.Order.{precedes-irrefl, precedes-trans, precedes-asym, ascending-sorted}
 use Rattle.model.proofs.Paths.{step-eq, prefix-trans, prefix-parent, prefix-below, prefix-first, between-extends, key-keyed, parent-prefix}
 use Rattle.model.proofs.Sets.{contains-in, in-contains, Closed, closed-facts, facts-closed}
 use Rattle.path.specs.Common.{isBefore}
@@ -125,11 +125,6 @@ module _ (n : ℕ) (label : T (isLabel n)) where
 
 -- ---- and the other way
 
--- two paths do not each come before the other
-pub not-back : (p q : List Step) → T (isBefore p q) → T (not (isBefore q p))
-not-back p q t =
-    not-T (isBefore q p) (λ u. precedes-irrefl (pathRank p) (precedes-trans (pathRank p) (pathRank q) (pathRank p) t u))
-
 -- a parent that ends in a label comes before its path
 parent-before : (n : ℕ) (p : List Step) → T (endsIn n (parent p)) → T (isBefore (parent p) p)
 parent-before n p t = prefix-first key key-keyed (parent p) p (parent-prefix p) (differs p t)
@@ -148,7 +143,7 @@ module _ (n : ℕ) (whole : List Element) (c : Closed n whole) where
       → T (isBefore p (e .path)) → T (endsIn n (parent (e .path))) → T (isPrefix (parent (e .path)) p)
   parent-passed p e es m a f b t =
       let r : (d : Element) × (d ∈ whole) × (q ≡ d .path) = contains-in whole q (c e m q (parent-prefix (e .path)) t) in
-      between-extends key key-keyed q p (e .path) (parent-prefix (e .path)) (rw (r .2) (go (r .0) (r .2) (f (r .0) (r .1)))) (not-back p (e .path) b)
+      between-extends key key-keyed q p (e .path) (parent-prefix (e .path)) (rw (r .2) (go (r .0) (r .2) (f (r .0) (r .1)))) (precedes-asym (pathRank p) (pathRank (e .path)) b)
     where
       q : List Step
       q = parent (e .path)

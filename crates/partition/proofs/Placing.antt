@@ -2,7 +2,7 @@
 -- the one that gets another content.
 use mathlib.Core.Path.{_≡_, refl, sym, ap, ap₂, _∙_}
 use mathlib.Core.Logic.{_⊎_, inl, inr}
-use mathlib.Core.Bool.{Bool, true, false, not, cond}
+use mathlib.Core.Bool.{Bool, true, false, not, cond, _||_}
 use mathlib.Core.List.{List, [], _∷_, _++_, List·Memᴰ·head, List·Memᴰ·tail, List·Memᴰ·cases-cons, List·Memᴰ·not-nil}
 use Prim.Native.Nat.{ℕ, suc, _+_, _≤_, _<_}
 use native.Mathlib.Omega.{arith}
@@ -18,12 +18,11 @@ use Rattle.model.specs.Element.{Element, rank, contains, remove}
 use Rattle.model.specs.Call.{extending, replaced}
 use Rattle.model.proofs.Bools.{and-l, and-r, decide, cond-yes, cond-no, is-true, is-false}
 use Rattle.model.proofs.Members.{all-in}
-use Rattle.model.proofs.Order.{precedes-irrefl, precedes-trans}
+use Rattle.model.proofs.Order.{precedes-irrefl, precedes-trans, precedes-asym}
 use Rattle.model.proofs.Sets.{contains-in}
 use Rattle.model.proofs.Paths.{same-eq, same-refl, prefix-first, between-extends, order-total, key-keyed}
 use Rattle.path.specs.Common.{isBefore}
 use Rattle.partition.specs.Place.{placeOf, replacedAt}
-use Rattle.partition.proofs.Linking.{not-back}
 
 -- ---- the place
 
@@ -43,7 +42,7 @@ extends-after p q t =
     decide (samePath p q)
     (λ (s : T (samePath p q)). rw (same-eq p q s) (not-T (isBefore q q) (precedes-irrefl (pathRank q))))
     (λ (s : T (not (samePath p q))).
-    not-back p q (prefix-first key key-keyed p q t (λ e. T-not (samePath p q) (rw e (same-refl q)) s)))
+    precedes-asym (pathRank p) (pathRank q) (prefix-first key key-keyed p q t (λ e. T-not (samePath p q) (rw e (same-refl q)) s)))
 
 -- ---- putting in
 
@@ -122,7 +121,7 @@ module _ (p : List Step) where
           not-T (isPrefix p (d .path))
           (λ k. T-not (isPrefix p (e .path))
           (between-extends key key-keyed p (e .path) (d .path) k (f e (List·Memᴰ·head refl))
-          (not-back (e .path) (d .path) (all-in (λ x. isBefore (e .path) (x .path)) es (and-l (ahead rank e es) (sorted rank es) s) m))) h)
+          (precedes-asym (pathRank (e .path)) (pathRank (d .path)) (all-in (λ x. isBefore (e .path) (x .path)) es (and-l (ahead rank e es) (sorted rank es) s) m))) h)
 
   -- what stands from the path's place on has all that extends the path, and none of it comes before the path
   record Behind (es : List Element) : Type 0 where
@@ -172,36 +171,32 @@ module _ (p : List Step) where
 
 -- ---- finding
 
--- a path that comes after an element is not the element's
 module _ (p : List Step) (e : Element) (es : List Element) where
+  -- a path that comes after an element is not the element's
+  after-other : T (isBefore (e .path) p) → T (not (samePath p (e .path)))
+  after-other b = not-T (samePath p (e .path)) (λ t. precedes-irrefl (pathRank p) (rw (← (same-eq p (e .path) t)) at b))
+
+  -- what stands behind an element that does not come before the path does not have the path
+  behind-lacks : T (sorted rank (e ∷ es)) → T (not (isBefore (e .path) p)) → T (not (contains es p))
+  behind-lacks s b =
+      not-T (contains es p)
+      (λ u. let r : (d : Element) × (d ∈ es) × (p ≡ d .path) = contains-in es p u in
+      T-not (isBefore (e .path) p)
+      (rw (r .2) (all-in (λ x. isBefore (e .path) (x .path)) es (and-l (ahead rank e es) (sorted rank es) s) (r .1))) b)
+
   -- the rest has the path where the whole has it
   pub contains-after : T (isBefore (e .path) p) → contains (e ∷ es) p ≡ contains es p
   unfolding contains
-  contains-after b =
-      let d : T (not (samePath p (e .path))) =
-      not-T (samePath p (e .path)) (λ t. precedes-irrefl (pathRank p) (rw (← (same-eq p (e .path) t)) at b)) in
-      rw (is-false (samePath p (e .path)) d)
+  contains-after b = rw (is-false (samePath p (e .path)) (after-other b))
 
   -- the first that does not come before the path is its element, or there is none
   pub contains-here : T (sorted rank (e ∷ es)) → T (not (isBefore (e .path) p)) → contains (e ∷ es) p ≡ samePath p (e .path)
   unfolding contains
-  contains-here s b =
-      decide (samePath p (e .path))
-      (λ (t : T (samePath p (e .path))). rw (is-true (samePath p (e .path)) t))
-      (λ (t : T (not (samePath p (e .path)))).
-      rw (is-false (samePath p (e .path)) t) (is-false (contains es p) (not-T (contains es p) (λ u. later t u))))
+  contains-here s b = ap (λ (t : Bool). samePath p (e .path) || t) (is-false (contains es p) (behind-lacks s b)) ∙ or-false (samePath p (e .path))
     where
-      -- the path comes before e, and so before what stands behind e
-      first : T (not (samePath p (e .path))) → T (isBefore p (e .path))
-      first t =
-          decide (isBefore p (e .path)) (λ (k : T (isBefore p (e .path))). k)
-          (λ (k : T (not (isBefore p (e .path)))). absurd (T-not (samePath p (e .path)) (rw (order-total key key-keyed p (e .path) k b) (same-refl (e .path))) t))
-
-      later : T (not (samePath p (e .path))) → T (contains es p) → ⊥
-      later t u =
-          let r : (d : Element) × (d ∈ es) × (p ≡ d .path) = contains-in es p u in
-          let a : T (isBefore (e .path) (r .0 .path)) = all-in (λ x. isBefore (e .path) (x .path)) es (and-l (ahead rank e es) (sorted rank es) s) (r .1) in
-          precedes-irrefl (pathRank p) (precedes-trans (pathRank p) (pathRank (e .path)) (pathRank p) (first t) (rw (r .2) a))
+      or-false : (t : Bool) → t || false ≡ t
+      or-false true = refl
+      or-false false = refl
 
 -- ---- giving another content
 
@@ -226,8 +221,7 @@ stands p c (e ∷ es) s t =
     decide (isBefore (e .path) p)
     (λ (b : T (isBefore (e .path) p)).
     let y : isBefore (e .path) p ≡ true = is-true (isBefore (e .path) p) b in
-    let q : T (not (samePath p (e .path))) =
-    not-T (samePath p (e .path)) (λ u. precedes-irrefl (pathRank p) (rw (← (same-eq p (e .path) u)) at b)) in
+    let q : T (not (samePath p (e .path))) = after-other p e es b in
     let r : Stands p c es = stands p c es (and-r (ahead rank e es) (sorted rank es) s) (rw (contains-after p e es b) at t) in
     let w : placeOf p es < length es = r .within in
     record {
@@ -244,13 +238,5 @@ stands p c (e ∷ es) s t =
           rw n
           (ap₂ (λ (d : Element) (l : List Element). d ∷ l)
           (ap (λ (x : List Step). record { path = x; content = c }) (sym z) ∙ sym (cond-yes (samePath p (e .path)) (record { path = p; content = c }) e q))
-          (sym (replaced-none p c es (once z))));
+          (sym (replaced-none p c es (behind-lacks p e es s b))));
     })
-  where
-    -- no element behind it has its path
-    once : p ≡ e .path → T (not (contains es p))
-    once z =
-        not-T (contains es p)
-        (λ u. let r : (d : Element) × (d ∈ es) × (p ≡ d .path) = contains-in es p u in
-        let a : T (isBefore (e .path) (r .0 .path)) = all-in (λ x. isBefore (e .path) (x .path)) es (and-l (ahead rank e es) (sorted rank es) s) (r .1) in
-        precedes-irrefl (pathRank p) (rw (← z, ← (r .2)) at a))
