@@ -15,7 +15,8 @@
  * by 2. Cut down to eight bits before the call it would be another subject's.
  *
  * A PATH is three bytes a step: the name (1 to 65535), lowest byte first, then the label. It has one to six steps, each label
- * dominating the one before; the last label is the element's. The path of no bytes is the root, which only a view takes.
+ * dominating the one before; the last label is the element's. The path of no bytes is the root: a view takes it, a grade refuses
+ * it by 12 and every other call by 4.
  *
  * A VALUE is a kind and bytes. Kind 0, a group: no bytes. Kind 1, a measure: four bytes, a signed number of hundredths of a
  * millimetre, lowest byte first. Kind 2, a text: 1 to 16 bytes, each 32 to 126. Pass the kind as it is, too: 256 is refused by 5.
@@ -28,13 +29,14 @@
  *   - A pointer reaches as many bytes as its length says. It is not NULL, not even where the length is 0: lend the address of
  *     any byte then; nothing is read or written there.
  *   - A buffer that is written (the store of an insert, an update or a delete; the output of a view) does not overlap another
- *     buffer of the same call. Buffers that are only read may overlap.
+ *     buffer of the same call. Buffers that are only read may overlap: a grade may be given one path twice.
  *   - Until a call returns, no other thread, signal handler or device writes a buffer that it was lent, or reads one that it
- *     writes. So two calls on one store run at the same time only if both are views. The library has no lock of its own.
+ *     writes. So two calls on one store run at the same time only if both only read it: views and grades. The library has no
+ *     lock of its own.
  *   - The functions are declared as below, with nothing narrower.
  *
- * A view takes less than 6 KB of stack on x86-64, a view as XML less than 8 KB and the other calls less than 1 KB, as measured
- * on a full store. No call blocks.
+ * A view takes less than 6 KB of stack on x86-64, a view as XML less than 8 KB and the other calls, a grade too, less than 1 KB,
+ * as measured on a full store. No call blocks.
  */
 #ifndef DOSSIER_H
 #define DOSSIER_H
@@ -89,8 +91,9 @@ enum {
     DOSSIER_KIND_TEXT = 2
 };
 
-/* The number of an answer: 0, or the first cause in this order that applies. After a refusal the count is 0, and the store and
- * the output hold the bytes that they held before. */
+/* The number of an answer: 0, or the first cause that applies, in the order of the numbers but for 11, which a grade tests right
+ * after 4. After a refusal the count is 0, or the step and the remainder are, and the store and the output hold the bytes that
+ * they held before. */
 enum {
     /* The call is done. */
     DOSSIER_DONE = 0,
@@ -100,27 +103,40 @@ enum {
     DOSSIER_REFUSED_SUBJECT = 2,
     /* A partition that the subject dominates is not well formed. Others are not read. */
     DOSSIER_REFUSED_NOT_WELL_FORMED = 3,
-    /* The path's length is no multiple of 3, it has over six steps, or none in a call that is not a view; or a name is 0, a
-     * label over 31, or a label does not dominate the one before. */
+    /* The path's length is no multiple of 3, it has over six steps, or none in a call that is neither a view nor a grade; or a
+     * name is 0, a label over 31, or a label does not dominate the one before. Grade: either path is so. */
     DOSSIER_REFUSED_PATH = 4,
     /* Insert, update: the kind is over 2, or the value's length or bytes are not those of its kind. */
     DOSSIER_REFUSED_VALUE = 5,
     /* Insert, update, delete: the path's last label is not the subject's. */
     DOSSIER_REFUSED_OTHER_LABEL = 6,
-    /* View: the path is not in view. Insert: the parent is not in view. Update, delete: the element is not live. */
+    /* View: the path is not in view. Insert: the parent is not in view. Update, delete: the element is not live. Grade: either
+     * path is not in view. */
     DOSSIER_REFUSED_ABSENT = 7,
     /* Insert: the element is live. */
     DOSSIER_REFUSED_LIVE = 8,
     /* Insert: the subject's partition holds 32 elements. */
     DOSSIER_REFUSED_FULL = 9,
     /* View: the output is shorter than the listing or the XML. */
-    DOSSIER_REFUSED_OUTPUT_SHORT = 10
+    DOSSIER_REFUSED_OUTPUT_SHORT = 10,
+    /* Grade: the number of sizes is not 1 to 64. Tested right after 4. */
+    DOSSIER_REFUSED_SIZES = 11,
+    /* Grade: both paths are in view, and either is no live measure's: a group's, a text's, a removed element's or the root. */
+    DOSSIER_REFUSED_NO_MEASURE = 12
 };
 
-/* What a call answers, returned by value: its number, and its count (what it counts stands at each call). */
+/* What a call but a grade answers, returned by value: its number, and its count (what it counts stands at each call). */
 struct dossier_answer {
     uint32_t number;
     uint64_t count;
+};
+
+/* What a grade answers, returned by value: its number, the step from one size to the next and what is left over, both in
+ * hundredths of a millimetre. The step may need more than 32 bits. The function has the same name: write struct dossier_grade. */
+struct dossier_grade {
+    uint32_t number;
+    int64_t step;
+    uint32_t remainder;
 };
 
 /* Lists the path, unless it is empty, and everything in the subject's view below it, in path order, into the output.
@@ -158,6 +174,15 @@ struct dossier_answer dossier_update(uint8_t *store, size_t store_length, uint32
  * Count: how many elements were taken. Only the subject's partition is written. */
 struct dossier_answer dossier_delete(uint8_t *store, size_t store_length, uint32_t subject, const uint8_t *path,
                                      size_t path_length);
+
+/* The even grade between two live measures that the subject sees, in n sizes: top - base = n x step + remainder, with a remainder
+ * of 0 to n - 1. So the step is rounded down, also where top is smaller: from 1000 to 990 in 3 sizes it is -4, and 2 are left.
+ * One path given twice has step 0 and remainder 0. The store is only read.
+ *
+ * Each cause is tested for both paths before the next one: where the base is a group and the top is not in view, the number is 7.
+ * A measure that the subject may not see is refused as one that is not there. Pass n as it is: 257 is refused by 11. */
+struct dossier_grade dossier_grade(const uint8_t *store, size_t store_length, uint32_t subject, const uint8_t *base,
+                                   size_t base_length, const uint8_t *top, size_t top_length, uint32_t n);
 
 #ifdef __cplusplus
 }

@@ -9,18 +9,20 @@ The files are calls-*.jsonl, sequences of document 01's calls, and stage-NN.json
 request NN of document 02.
 
 What the calls must give comes from tools/reference.py, documents 01 and 02 as a Python program. Each case also states the
-number, the count and the listing or the XML that the documents fix, by hand, and the reference is held to them. The sequences
-of a file bring their own answers, and the reference is held to these too; the SHA-256 of the store at the end of each stands
-below.
+number, the count and the listing or the XML that the documents fix, or the number, the step and the remainder, by hand, and the
+reference is held to them. The sequences of a file bring their own answers, and the reference is held to these too; the SHA-256
+of the store at the end of each stands below.
 
 A record of stdin is a head of four bytes, three words and two texts. The head: a letter, the lengths of the texts, zero. The
-words, lowest byte first: the store's length; a subject or a place; a kind or the output's length. The letters: V, M (the view
-as XML), I, U and D, the calls (texts: path and value); N, a name for what follows (text: a line); Z, every byte of the store
-becomes 0; X, bytes come onto the store from a place on (text: the bytes); S, the store is shown.
+words, lowest byte first: the store's length; a subject or a place; a kind, the output's length or a number of sizes. The
+letters: V, M (the view as XML), I, U and D, calls (texts: path and value); G (the even grade), a call too (texts: the base's
+path and the top's); N, a name for what follows (text: a line); Z, every byte of the store becomes 0; X, bytes come onto the
+store from a place on (text: the bytes); S, the store is shown.
 
 stdout has for each call a line of its letter, number and count, and behind V and M what was written, up to the last byte of the
-output that is not as it was, XML with an end of line behind it; for each name a line; for S a line for each partition that is
-not empty: its number and its bytes, in hexadecimal digits, up to the last that is not 0.
+output that is not as it was, XML with an end of line behind it; for G a line of its letter, number, step and remainder, the
+step with a minus sign where it is negative; for each name a line; for S a line for each partition that is not empty: its number
+and its bytes, in hexadecimal digits, up to the last that is not 0.
 """
 import base64
 import hashlib
@@ -38,7 +40,7 @@ BUFFER = 33 * PARTITION  # what the program keeps: a store, and some bytes behin
 
 records = []
 output = []
-answered = {letter: set() for letter in "VMIUD"}
+answered = {letter: set() for letter in "VMIUDG"}
 buffer = bytearray(BUFFER)
 
 
@@ -54,12 +56,14 @@ def record(letter, first=b"", second=b"", subject=0, third=0, size=BUFFER):
         buffer[subject : subject + len(first)] = first
     elif letter == "S":
         show_store()
+    elif letter == "G":
+        return graded(first, second, subject, third, size)
     else:
         return call(letter, first, second, subject, third, size)
 
 
 def call(letter, path, value, subject, third, size):
-    """Carries out a call on the first bytes of the buffer; the third word is the output's length of V and M, else a kind."""
+    """Carries out a call, not G, on the first bytes of the buffer; the third word is the output's length (V, M) or a kind."""
     model = Model(buffer[:size])
     number, count, text = model.call(letter, subject, path, third, value, third)
     buffer[:size] = model.bytes()
@@ -68,6 +72,14 @@ def call(letter, path, value, subject, third, size):
         output.append(b"\n")
     answered[letter].add(number)
     return number, count, text
+
+
+def graded(base, top, subject, n, size):
+    """Carries out G on the first bytes of the buffer, which stay as they are."""
+    number, step, remainder = Model(buffer[:size]).grade(subject, base, top, n)
+    output.append(b"G %d %d %d\n" % (number, step, remainder))
+    answered["G"].add(number)
+    return number, step, remainder
 
 
 def show_store():
@@ -79,7 +91,7 @@ def show_store():
 
 
 # ---------------------------------------------------------------------------------------------------------------------
-# How a case is written: what it calls, then the number and the count that the documents fix.
+# How a case is written: what it calls, then the number and the count, or the step and the remainder, that the documents fix.
 
 CASES = []
 G = (0, b"")
@@ -182,6 +194,17 @@ def markup_elements(subject, where, elements):
     hold((number, text.count(b" label="), text.count(b"</e")), (0, elements, elements))
 
 
+def grade(subject, base, top, n, number, step=0, remainder=0, size=STORE):
+    """An even grade from the base's path to the top's."""
+    hold(record("G", path(base), path(top), subject, n, size), (number, step, remainder))
+
+
+def grade_both(subject, one, other, n, number, size=STORE):
+    """The even grades from one path to another and from that to the one are refused with one number."""
+    grade(subject, one, other, n, number, 0, 0, size)
+    grade(subject, other, one, n, number, 0, 0, size)
+
+
 def corrupt(offset, raw):
     """Bytes that come onto the store."""
     for i in range(0, len(raw), 255):
@@ -201,12 +224,13 @@ def show():
 
 
 def every_call(number, subject, where, value=G, size=STORE):
-    """All five calls are refused with one number."""
+    """All six calls are refused with one number, one that comes before 12: of an even grade the other path is the root's."""
     insert(subject, where, value, number, size)
     update(subject, where, value, number, 0, size)
     delete(subject, where, number, 0, size)
     view(subject, where, 100, number, 0, (), size)
     markup(subject, where, 100, number, 0, "", size)
+    grade_both(subject, where, "/", 1, number, size)
 
 
 # ---------------------------------------------------------------------------------------------------------------------
@@ -809,6 +833,334 @@ def xml_siblings():
 
 
 # ---------------------------------------------------------------------------------------------------------------------
+# Even grades: document 02's request 3/14.
+
+
+@case("even grades")
+def grades():
+    for name, n in enumerate([1000, 1025, 990, -2147483648, 2147483647], 1):
+        insert(0, "%d:0" % name, M(n), 0)
+    insert(0, "6:0", G, 0)
+    insert(16, "7:16", M(5), 0)
+    insert(0, "8:0", G, 0)
+    insert(16, "8:0/9:16", M(6), 0)
+    delete(0, "8:0", 0, 1)
+    insert(0, "10:0", T("SLEEVE"), 0)
+    grade(0, "1:0", "2:0", 4, 0, 6, 1)
+    grade(0, "1:0", "3:0", 3, 0, -4, 2)
+    grade(0, "1:0", "1:0", 64, 0, 0, 0)
+    grade(0, "4:0", "5:0", 1, 0, 4294967295, 0)
+    grade(0, "5:0", "4:0", 1, 0, -4294967295, 0)
+    grade(0, "5:0", "4:0", 64, 0, -67108864, 1)
+    grade(0, "1:0", "2:0", 0, 11)
+    grade(0, "1:0", "2:0", 65, 11)
+    grade(0, "1:0", "99:0", 0, 11)
+    grade(0, "1:0", "99:0", 2, 7)
+    grade(0, "6:0", "99:0", 2, 7)
+    grade(0, "1:0", "6:0", 2, 12)
+    grade(0, "/", "1:0", 2, 12)
+    grade(0, "1:0", "7:16", 2, 7)
+    grade(16, "1:0", "7:16", 2, 0, -498, 1)
+    grade(16, "8:0", "1:0", 2, 12)
+    grade(16, "8:0/9:16", "1:0", 7, 0, 142, 0)
+    grade(0, "1:0", "10:0", 2, 12)
+    grade(0, "/", "99:0", 2, 7)
+    grade(40, "1:0", "2:0", 4, 2)
+    grade(0, "0:0", "1:0", 4, 4)
+    grade(0, "1:0", "1:40", 0, 4)
+    show()
+
+
+@case("even grades in 1 to 64 sizes")
+def grade_sizes():
+    insert(0, "1:0", M(-10), 0)
+    insert(0, "2:0", M(990), 0)
+    for n, step, remainder in ((1, 1000, 0), (2, 500, 0), (3, 333, 1), (7, 142, 6), (63, 15, 55), (64, 15, 40)):
+        grade(0, "1:0", "2:0", n, 0, step, remainder)
+    for n, step, remainder in ((1, -1000, 0), (2, -500, 0), (3, -334, 2), (7, -143, 1), (63, -16, 8), (64, -16, 24)):
+        grade(0, "2:0", "1:0", n, 0, step, remainder)
+    then("even grades in 0, 65, 256, 257, 320, 65540, 4294967232 and 4294967295 sizes")
+    for n in (0, 65, 256, 257, 320, 65540, 4294967232, 4294967295):
+        grade(0, "1:0", "2:0", n, 11)
+    show()
+
+
+@case("even grades round down, to a top that is greater and to one that is smaller")
+def grade_rounding():
+    insert(0, "1:0", M(0), 0)
+    rows = ((-129, -3, 63), (-128, -2, 0), (-127, -2, 1), (-65, -2, 63), (-64, -1, 0), (-63, -1, 1), (-1, -1, 63))
+    rows += ((1, 0, 1), (63, 0, 63), (64, 1, 0), (65, 1, 1), (127, 1, 63), (128, 2, 0), (129, 2, 1))
+    for name, (n, step, remainder) in enumerate(rows, 2):
+        insert(0, "%d:0" % name, M(n), 0)
+        grade(0, "1:0", "%d:0" % name, 64, 0, step, remainder)
+    then("a difference of -1 and of 1, by the number of sizes")
+    for n in (1, 2, 3, 63):
+        grade(0, "1:0", "8:0", n, 0, -1, n - 1)
+    grade(0, "8:0", "1:0", 1, 0, 1, 0)
+    grade(0, "8:0", "1:0", 2, 0, 0, 1)
+    grade(0, "8:0", "1:0", 63, 0, 0, 1)
+    then("a base that is negative, and a base and a top that are")
+    grade(0, "7:0", "10:0", 63, 0, 2, 0)
+    grade(0, "10:0", "7:0", 63, 0, -2, 0)
+    grade(0, "2:0", "3:0", 3, 0, 0, 1)
+    grade(0, "3:0", "2:0", 3, 0, -1, 2)
+    grade(0, "2:0", "8:0", 3, 0, 42, 2)
+    grade(0, "8:0", "2:0", 3, 0, -43, 1)
+
+
+@case("even grades of the least measure and the greatest")
+def grade_extremes():
+    for name, n in enumerate([-2147483648, 2147483647, 0, -1], 1):
+        insert(0, "%d:0" % name, M(n), 0)
+    rows = ((1, 4294967295, 0), (2, 2147483647, 1), (3, 1431655765, 0), (63, 68174084, 3), (64, 67108863, 63))
+    for n, step, remainder in rows:
+        grade(0, "1:0", "2:0", n, 0, step, remainder)
+    rows = ((1, -4294967295, 0), (2, -2147483648, 1), (3, -1431655765, 0), (63, -68174085, 60), (64, -67108864, 1))
+    for n, step, remainder in rows:
+        grade(0, "2:0", "1:0", n, 0, step, remainder)
+    then("even grades between these and 0 and -1")
+    grade(0, "3:0", "1:0", 1, 0, -2147483648, 0)
+    grade(0, "1:0", "3:0", 1, 0, 2147483648, 0)
+    grade(0, "2:0", "3:0", 2, 0, -1073741824, 1)
+    grade(0, "4:0", "2:0", 64, 0, 33554432, 0)
+    grade(0, "2:0", "4:0", 64, 0, -33554432, 0)
+    grade(0, "2:0", "4:0", 63, 0, -34087043, 61)
+    grade(0, "4:0", "1:0", 3, 0, -715827883, 2)
+    grade(0, "1:0", "1:0", 3, 0, 0, 0)
+    grade(0, "2:0", "2:0", 64, 0, 0, 0)
+    show()
+
+
+@case("even grades by each byte of a measure")
+def grade_bytes():
+    insert(0, "1:0", M(1), 0)
+    rows = ((128, 127), (32768, 32767), (8388608, 8388607), (16777216, 16777215), (-255, -256), (-16777215, -16777216))
+    for name, (n, step) in enumerate(rows, 2):
+        insert(0, "%d:0" % name, M(n), 0)
+        grade(0, "1:0", "%d:0" % name, 1, 0, step, 0)
+
+
+@case("even grades of one path twice")
+def grade_twice():
+    insert(0, "1:0", M(-7), 0)
+    insert(0, "2:0", G, 0)
+    insert(0, "3:0", T("abcd"), 0)
+    insert(0, "4:0", M(9), 0)
+    insert(16, "4:0/5:16", M(5), 0)
+    delete(0, "4:0", 0, 1)
+    for n in (1, 2, 64):
+        grade(0, "1:0", "1:0", n, 0, 0, 0)
+    grade(16, "4:0/5:16", "4:0/5:16", 64, 0, 0, 0)
+    then("one path twice: a group, a text, a removed element, the root; not in view; no path; 0 sizes and 65")
+    grade(0, "2:0", "2:0", 1, 12)
+    grade(0, "3:0", "3:0", 1, 12)
+    grade(16, "4:0", "4:0", 1, 12)
+    grade(0, "/", "/", 1, 12)
+    grade(0, "4:0", "4:0", 1, 7)
+    grade(0, "4:0/5:16", "4:0/5:16", 1, 7)
+    grade(9, "4:0/5:16", "4:0/5:16", 1, 7)
+    grade(0, "99:0", "99:0", 1, 7)
+    grade(0, "0:0", "0:0", 1, 4)
+    grade(0, "1:0", "1:0", 0, 11)
+    grade(0, "1:0", "1:0", 65, 11)
+    show()
+
+
+@case("12: an even grade of a group, of texts of 4 bytes and of 16, of a removed element, of the root")
+def grade_12():
+    insert(0, "1:0", M(1), 0)
+    insert(0, "2:0", G, 0)
+    insert(0, "3:0", T("abcd"), 0)
+    insert(0, "4:0", T("0123456789abcdef"), 0)
+    insert(0, "5:0", M(5), 0)
+    insert(16, "5:0/6:16", M(6), 0)
+    delete(0, "5:0", 0, 1)
+    for where in ("2:0", "3:0", "4:0", "5:0", "/"):
+        grade_both(16, "1:0", where, 2, 12)
+    grade_both(16, "2:0", "5:0", 2, 12)
+    grade_both(16, "3:0", "/", 2, 12)
+    grade(16, "1:0", "5:0/6:16", 2, 0, 2, 1)
+    show()
+
+
+@case("an even grade's 4 before 11, 7 and 12, by either path")
+def grade_order():
+    insert(0, "1:0", M(1), 0)
+    insert(0, "2:0", G, 0)
+    # beside bytes that are no path: a measure, an element not in view, a group, the root
+    for where in ("1:0", "99:0", "2:0", "/"):
+        grade_both(0, "0:0", where, 0, 4)
+    grade_both(0, "0:0", "99:0", 2, 4)
+    grade_both(0, "0:0", "2:0", 2, 4)
+    for bad in (b"\1", b"\1\0", path("1:0") * 6 + b"\1", path("1:0") * 7, "1:16/2:9"):
+        grade_both(16, bad, "1:0", 2, 4)
+    grade(0, "0:0", b"\1", 65, 4)
+    then("11 before 7 and 12, by either path")
+    grade_both(0, "1:0", "99:0", 0, 11)
+    grade_both(0, "1:0", "2:0", 65, 11)
+    grade_both(0, "99:0", "2:0", 256, 11)
+    then("7 before 12, by either path")
+    grade_both(0, "1:0", "99:0", 64, 7)
+    grade_both(0, "2:0", "99:0", 64, 7)
+    grade_both(0, "/", "99:0", 64, 7)
+    grade(0, "98:0", "99:0", 64, 7)
+    show()
+
+
+@case("1, 2 and 3 of an even grade of two measures")
+def grade_barred():
+    insert(0, "1:0", M(1), 0)
+    insert(0, "2:0", M(8), 0)
+    insert(16, "3:16", M(3), 0)
+    grade(0, "1:0", "2:0", 2, 1, 0, 0, 41087)
+    grade(0, "1:0", "2:0", 2, 1, 0, 0, 41089)
+    grade(32, "0:0", "2:0", 0, 1, 0, 0, 41087)
+    for subject in (32, 287, 4294967295):
+        grade(subject, "1:0", "2:0", 2, 2)
+    grade(287, "0:0", "2:0", 0, 2)
+    then("a partition that the subject dominates corrupted, and one that he does not")
+    corrupt(PARTITION * 16 + 2, b"\1")
+    grade(0, "1:0", "2:0", 2, 0, 3, 1)
+    grade(9, "2:0", "1:0", 2, 0, -4, 1)
+    grade(0, "1:0", "3:16", 2, 7)
+    grade(16, "1:0", "2:0", 2, 3)
+    grade(31, "1:0", "2:0", 2, 3)
+    grade(16, "0:0", "/", 0, 3)
+    grade(32, "1:0", "2:0", 2, 2)
+    show()
+    corrupt(PARTITION * 16 + 2, b"\0")
+    grade(16, "2:0", "3:16", 2, 0, -3, 1)
+    corrupt(1283, b"\1")
+    grade(0, "1:0", "2:0", 2, 3)
+    grade(9, "1:0", "2:0", 2, 3)
+    show()
+
+
+@case("even grades of 0 and 9 as 16 inserts and is corrupted")
+def grade_lower():
+    insert(0, "1:0", M(1000), 0)
+    insert(9, "2:9", M(1025), 0)
+
+    def as_it_was():
+        """What 0 and 9 are answered of their measures and of those of 16."""
+        grade(9, "1:0", "2:9", 4, 0, 6, 1)
+        grade_both(0, "1:0", "3:16", 2, 7)
+        grade_both(9, "1:0", "4:0", 2, 7)
+        grade(9, "4:0/5:16", "4:0/5:16", 2, 7)
+        grade(0, "1:0", "3:16", 65, 11)
+
+    as_it_was()
+    show()
+    insert(16, "3:16", M(5), 0)
+    insert(0, "4:0", M(4), 0)
+    insert(16, "4:0/5:16", M(6), 0)
+    delete(0, "4:0", 0, 1)
+    as_it_was()
+    grade(16, "1:0", "3:16", 2, 0, -498, 1)
+    grade(16, "4:0/5:16", "3:16", 2, 0, -1, 1)
+    grade(16, "4:0", "1:0", 2, 12)
+    grade(16, "1:0", "2:9", 2, 7)
+    grade(25, "2:9", "4:0/5:16", 64, 0, -16, 5)
+    show()
+    corrupt(PARTITION * 16, b"\41")
+    as_it_was()
+    grade(16, "1:0", "3:16", 2, 3)
+    show()
+
+
+@case("even grades after updates, deletes and inserts")
+def grade_after():
+    insert(0, "1:0", M(100), 0)
+    insert(0, "2:0", M(200), 0)
+    insert(16, "2:0/3:16", M(300), 0)
+    grade(0, "1:0", "2:0", 10, 0, 10, 0)
+    update(0, "2:0", M(149), 0, 1)
+    grade(0, "1:0", "2:0", 10, 0, 4, 9)
+    grade(16, "2:0/3:16", "2:0", 10, 0, -16, 9)
+    update(0, "1:0", M(-1), 0, 1)
+    grade(16, "1:0", "2:0", 10, 0, 15, 0)
+    update(0, "2:0", T("SIZE"), 0, 1)
+    grade(0, "1:0", "2:0", 10, 12)
+    grade(16, "1:0", "2:0/3:16", 10, 0, 30, 1)
+    update(0, "2:0", M(-2), 0, 1)
+    grade(0, "1:0", "2:0", 10, 0, -1, 9)
+    then("an even grade of a deleted measure with a live one below it, and without")
+    delete(0, "2:0", 0, 1)
+    grade(0, "1:0", "2:0", 10, 7)
+    grade(16, "1:0", "2:0", 10, 12)
+    grade(16, "1:0", "2:0/3:16", 10, 0, 30, 1)
+    insert(0, "2:0", M(9), 0)
+    grade(0, "1:0", "2:0", 10, 0, 1, 0)
+    grade(16, "1:0", "2:0", 10, 0, 1, 0)
+    delete(0, "2:0", 0, 1)
+    delete(16, "2:0/3:16", 0, 1)
+    grade(16, "1:0", "2:0", 10, 7)
+    grade(16, "1:0", "2:0/3:16", 10, 7)
+    show()
+
+
+@case("even grades of six steps")
+def grade_deep():
+    six = "1:0/2:1/3:1/4:3/5:11/6:27"
+    for n, label in enumerate((0, 1, 1, 3, 11, 27), 1):
+        insert(label, "/".join(six.split("/")[:n]), M(10 * n), 0)
+    other = "1:0/2:1/3:1/4:3/5:11/7:27"
+    insert(27, other, M(-60), 0)
+    grade(27, six, other, 7, 0, -18, 6)
+    grade(27, other, six, 7, 0, 17, 1)
+    grade(27, "1:0", six, 6, 0, 8, 2)
+    grade(27, six, "1:0/2:1", 6, 0, -7, 2)
+    grade(27, "1:0/2:1/3:1", "1:0/2:1/3:1/4:3/5:11", 6, 0, 3, 2)
+    grade(31, six, six, 6, 0, 0, 0)
+    grade_both(11, "1:0", six, 6, 7)
+    grade_both(27, six, six + "/7:27", 6, 4)
+    grade_both(27, six, "1:0/2:1/3:1/4:3/5:11/8:27", 6, 7)
+    then("even grades of six steps, five of them removed")
+    delete(0, "1:0", 0, 1)
+    delete(1, "1:0/2:1", 0, 2)
+    delete(3, "1:0/2:1/3:1/4:3", 0, 1)
+    delete(11, "1:0/2:1/3:1/4:3/5:11", 0, 1)
+    grade(27, six, other, 7, 0, -18, 6)
+    grade_both(27, "1:0/2:1/3:1/4:3/5:11", six, 7, 12)
+    grade(27, six, "1:0", 7, 12)
+    grade(11, "1:0", "1:0", 7, 7)
+    show()
+
+
+@case("even grades between versions of one name, and of 32 elements of a label")
+def grade_versions():
+    insert(0, "10:0", M(1), 0)
+    insert(16, "10:16", M(2), 0)
+    insert(9, "10:9", M(4), 0)
+    insert(16, "10:0/10:16", M(8), 0)
+    grade(25, "10:0", "10:9", 2, 0, 1, 1)
+    grade(25, "10:9", "10:16", 2, 0, -1, 0)
+    grade(25, "10:16", "10:0/10:16", 5, 0, 1, 1)
+    grade(16, "10:0", "10:16", 2, 0, 0, 1)
+    grade(16, "10:0", "10:9", 2, 7)
+    grade(9, "10:0", "10:16", 2, 7)
+    grade(25, "10:0", "10:8", 2, 7)
+    grade(25, "10:0", "10:24", 2, 7)
+    put(0, *[("%d:0" % (250 + n), M(100 * n)) for n in range(32)])
+    grade(0, "250:0", "281:0", 31, 0, 100, 0)
+    grade(0, "281:0", "250:0", 32, 0, -97, 4)
+    grade(0, "255:0", "256:0", 64, 0, 1, 36)
+    grade(16, "281:0", "10:16", 3, 0, -1033, 1)
+    grade_both(0, "249:0", "250:0", 2, 7)
+    grade_both(0, "282:0", "281:0", 2, 7)
+
+
+@case("an even grade of labels 9 and 16, by subjects that see one of them, both and neither")
+def grade_subjects():
+    insert(9, "10:9", M(9), 0)
+    insert(16, "10:16", M(16), 0)
+    for subject in (0, 8, 9, 15, 16, 18, 24, 30):
+        grade(subject, "10:9", "10:16", 4, 7)
+    for subject in (17, 19, 21, 25, 31):
+        grade(subject, "10:9", "10:16", 4, 0, 1, 3)
+
+
+# ---------------------------------------------------------------------------------------------------------------------
 # The table: each number on each call that can give it, and which comes first.
 
 
@@ -1078,6 +1430,9 @@ CHOSEN = {
     "sequence 2122 after request 2": "0e94562524633c412211e0be427bb704c0616f306746ada7861b3f4b4e811597",
     "sequence 2140 after request 2": "f433a957ac4ea9606133aa7a0e282504f5e2e1d5c99e062c7d3a946b3e89af4d",
     "sequence 2175 after request 2": "7ffe429095161c59f5ddc179f6deba8b1202f8183cbfbb30cd09c98ac3f68877",
+    "sequence 3048 after request 3": "fb1a38329836140bbfb21c96e8d24f2bc4b9f6858209f5219546327b745b2ca8",
+    "sequence 3169 after request 3": "b0f4d08734f16eef5585286fd84fe023de125d33b32a84afc74f39579a9514a9",
+    "sequence 3174 after request 3": "70eb0019a40b8fbe28da941efb5d97d1fcd2db1854dfda04dafa2f35de4b5149",
 }
 
 
@@ -1123,6 +1478,11 @@ def event(line):
     """One event of a sequence: bytes that come onto the store, or a call and what it must give."""
     if "damage" in line:
         corrupt(line["damage"], bytes.fromhex(line["bytes"]))
+        return
+    if line["call"] == "grade":
+        base, top = bytes.fromhex(line["path"]), bytes.fromhex(line["top"])
+        hold(line["written"], "")
+        grade(line["subject"], base, top, line["n"], line["number"], *line["count"])
         return
     letter = {"view": "V", "xml": "M", "insert": "I", "update": "U", "delete": "D"}[line["call"]]
     where, value = bytes.fromhex(line["path"]), bytes.fromhex(line.get("value", ""))
@@ -1172,6 +1532,7 @@ def write(name, raw):
 # the numbers that each call can answer: all of them are among the cases
 VIEWS = {0, 1, 2, 3, 4, 7, 10}
 NUMBERS = {"V": VIEWS, "M": VIEWS, "I": set(range(10)), "U": set(range(8)), "D": {0, 1, 2, 3, 4, 6, 7}}
+NUMBERS["G"] = {0, 1, 2, 3, 4, 7, 11, 12}
 
 
 def main(words):

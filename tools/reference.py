@@ -1,8 +1,8 @@
 """Documents 01 and 02 as a Python program, written from the documents alone: the reference that expected output comes from.
 
 It holds labels, paths, values, the bytes of slots, partitions and stores, what is in view, how it is listed and how it is written
-as XML, and the five calls on a model of the store: the four of document 01, Update as document 02's request 2/14 amends it, and
-the view as XML of request 1/14. It shares no code with the crates, and runs by no part of them.
+as XML, and the six calls on a model of the store: the four of document 01, Update as document 02's request 2/14 amends it, the
+view as XML of request 1/14 and the even grade of request 3/14. It shares no code with the crates, and runs by no part of them.
 """
 import struct
 
@@ -150,9 +150,18 @@ class Model:
         live = [p for n in range(32) if dominates(subject, n) for p in self.parts[n]]
         return {p[:n] for p in live for n in range(1, len(p) + 1)}
 
+    def sees(self, subject, path):
+        """Whether the path is in the subject's view; the root always is."""
+        return path == () or path in self.in_view(subject)
+
     def is_live(self, path):
         """Whether the element is in the set of its label."""
         return path in self.parts[path[-1][1]]
+
+    def measure(self, path):
+        """The measure of the live element at the path; None at the root, where no element is live and where it is no measure."""
+        kind, value = (0, b"") if path == () else self.parts[path[-1][1]].get(path, (0, b""))
+        return struct.unpack("<i", value)[0] if kind == 1 else None
 
     def listed(self, subject, path):
         """What a view of the path lists: each path with its kind and value, or with None where the element is removed."""
@@ -169,14 +178,19 @@ class Model:
         top = sorted(p for p in listed if p == path or len(p) == 1)
         return b'<dossier subject="%d">%s</dossier>' % (subject, b"".join(element(p, listed) for p in top))
 
+    def barred(self, subject):
+        """The number of the first of the causes 1 to 3, those of every call, that applies, else 0."""
+        if len(self.store) != STORE:
+            return 1
+        if subject > 31:
+            return 2
+        return 3 if any(isinstance(self.parts[n], bytes) for n in range(32) if dominates(subject, n)) else 0
+
     def refusal(self, op, subject, raw, kind, value):
         """The number of the first of the causes 1 to 9 that applies, else 0; and the path."""
-        if len(self.store) != STORE:
-            return 1, None
-        if subject > 31:
-            return 2, None
-        if any(isinstance(self.parts[n], bytes) for n in range(32) if dominates(subject, n)):
-            return 3, None
+        number = self.barred(subject)
+        if number != 0:
+            return number, None
         path = read_path(raw)
         if path is None or (path == () and op not in "VM"):
             return 4, None
@@ -184,9 +198,9 @@ class Model:
             return 5, path
         if op in "IUD" and path[-1][1] != subject:
             return 6, path
-        if op in "VM" and path != () and path not in self.in_view(subject):
+        if op in "VM" and not self.sees(subject, path):
             return 7, path
-        if op == "I" and path[:-1] != () and path[:-1] not in self.in_view(subject):
+        if op == "I" and not self.sees(subject, path[:-1]):
             return 7, path
         if op in "UD" and not self.is_live(path):
             return 7, path
@@ -212,3 +226,27 @@ class Model:
         for p in gone:
             del own[p]
         return 0, len(gone), b""
+
+    def grade_refusal(self, subject, base, top, n):
+        """The number of the first cause that applies to an even grade, each tested for both paths, else 0; and the paths."""
+        number = self.barred(subject)
+        if number != 0:
+            return number, ()
+        paths = read_path(base), read_path(top)
+        if None in paths:
+            return 4, ()
+        if not 1 <= n <= 64:
+            return 11, paths
+        if not all(self.sees(subject, path) for path in paths):
+            return 7, paths
+        if any(self.measure(path) is None for path in paths):
+            return 12, paths
+        return 0, paths
+
+    def grade(self, subject, base, top, n):
+        """The call G, the even grade from a base to a top in n sizes: its number, its step and its remainder."""
+        number, paths = self.grade_refusal(subject, base, top, n)
+        if number != 0:
+            return number, 0, 0
+        start, end = map(self.measure, paths)
+        return 0, *divmod(end - start, n)

@@ -1,7 +1,9 @@
 /* A subject of label 0 inserts a style and a subject of label 16 a measure under it; 0 deletes the style, and 16 lists what he
- * sees: the style, marked as removed, above his measure. */
+ * sees: the style, marked as removed, above his measure. Then 16 inserts a second measure and asks for the even grade between
+ * the two. */
 #include "dossier.h"
 
+#include <inttypes.h>
 #include <stdio.h>
 
 /* The store, empty at first. */
@@ -14,23 +16,31 @@ static uint8_t output[DOSSIER_LISTING_BYTES_MAX];
 static const uint32_t open_subject = DOSSIER_LABEL(DOSSIER_LEVEL_OPEN, 0);
 static const uint32_t house_subject = DOSSIER_LABEL(DOSSIER_LEVEL_HOUSE, 0);
 
-/* The path 10:0, and 20:16 below it. */
+/* The path 10:0, and 20:16 and 21:16 below it. */
 static const uint8_t style[] = {10, 0, 0};
 static const uint8_t sleeve[] = {10, 0, 0, 20, 0, 16};
+static const uint8_t wider[] = {10, 0, 0, 21, 0, 16};
 
-/* -150 hundredths of a millimetre, lowest byte first. */
+/* -150 and 850 hundredths of a millimetre, lowest byte first. */
 static const uint8_t measure[] = {0x6a, 0xff, 0xff, 0xff};
+static const uint8_t wider_measure[] = {0x52, 0x03, 0x00, 0x00};
 
 /* No bytes: the root's path and a group's value. */
 static const uint8_t none[1];
 
-/* Whether a call is done; says so if it was refused. */
+/* Whether a call with this number is done; says so if it was refused. */
+static int is_number_done(const char *call, uint32_t number)
+{
+    if (number != DOSSIER_DONE) {
+        fprintf(stderr, "%s: refused by %" PRIu32 "\n", call, number);
+    }
+    return number == DOSSIER_DONE;
+}
+
+/* Whether a call with this answer is done. */
 static int is_done(const char *call, struct dossier_answer answer)
 {
-    if (answer.number != DOSSIER_DONE) {
-        fprintf(stderr, "%s: refused by %u\n", call, (unsigned)answer.number);
-    }
-    return answer.number == DOSSIER_DONE;
+    return is_number_done(call, answer.number);
 }
 
 /* The three calls that change the store. */
@@ -49,7 +59,20 @@ static int print_view(uint32_t subject)
     return is_done("view", answer) && fwrite(output, 1, answer.count, stdout) == answer.count;
 }
 
+/* Inserts the second measure and prints the grade from the first to it in three sizes. */
+static int print_grade(void)
+{
+    if (!is_done("insert", dossier_insert(store, sizeof store, house_subject, wider, sizeof wider, DOSSIER_KIND_MEASURE,
+                                          wider_measure, sizeof wider_measure))) {
+        return 0;
+    }
+    struct dossier_grade grade
+        = dossier_grade(store, sizeof store, house_subject, sleeve, sizeof sleeve, wider, sizeof wider, 3);
+    return is_number_done("grade", grade.number)
+        && printf("step %" PRId64 ", remainder %" PRIu32 "\n", grade.step, grade.remainder) > 0;
+}
+
 int main(void)
 {
-    return make() && print_view(open_subject) && print_view(house_subject) ? 0 : 1;
+    return make() && print_view(open_subject) && print_view(house_subject) && print_grade() ? 0 : 1;
 }

@@ -13,15 +13,16 @@
  * take. */
 enum { STACK = 65536, FILL = 0xa5, VIEW_MOST = 6 * 1024, XML_MOST = 8 * 1024, OTHER_MOST = 1024 };
 
-/* The bytes of the longest listing and of the longest XML known, and the elements of each label. */
-enum { LONGEST = 114861, LONGEST_XML = 414816, EACH = 32, LABELS = 32, STEP = 3, ABOVE = 5 };
+/* The bytes of the longest listing and of the longest XML known, the elements of each label, and the first name. */
+enum { LONGEST = 114861, LONGEST_XML = 414816, EACH = 32, LABELS = 32, STEP = 3, ABOVE = 5, FIRST_NAME = 10000 };
 
 static uint8_t store[DOSSIER_STORE_BYTES];
 static uint8_t output[DOSSIER_XML_BYTES_MAX];
 static _Alignas(4096) uint8_t stack[STACK];
 
-/* A path that is in the store, and what the last call answered. */
+/* A path that is in the store, another one for a grade, and what the last call answered. */
 static uint8_t path[STEP * (ABOVE + 1)];
+static uint8_t other_path[STEP * (ABOVE + 1)];
 static struct dossier_answer answer;
 
 /* How many checks held and how many did not. */
@@ -88,7 +89,7 @@ static int insert_below(int label, int name)
 /* Fills the store, from the highest label on, so that the lower ones still have room for what is removed again. */
 static int fill(void)
 {
-    int done = 1, name = 10000;
+    int done = 1, name = FIRST_NAME;
     for (int label = LABELS - 1; label >= 0; label--) {
         for (int at = 0; at < EACH; at++) {
             done = insert_below(label, name++) && done;
@@ -97,8 +98,8 @@ static int fill(void)
     return done;
 }
 
-/* The calls that are measured: none, for what a thread takes itself, a view of all, one as XML, an update, a delete and an
- * insert. */
+/* The calls that are measured: none, for what a thread takes itself, a view of all, one as XML, an update, a delete, an insert,
+ * a grade between two measures and one between two removed elements, which is refused. */
 static void *no_call(void *unused)
 {
     return unused;
@@ -134,6 +135,38 @@ static void *call_insert(void *unused)
     return unused;
 }
 
+static void *call_grade(void *unused)
+{
+    answer.number = dossier_grade(store, sizeof store, 31, path, sizeof path, other_path, sizeof other_path, 64).number;
+    return unused;
+}
+
+static void *call_grade_removed(void *unused)
+{
+    answer.number = dossier_grade(store, sizeof store, 31, path, STEP, other_path, STEP, 64).number;
+    return unused;
+}
+
+/* Makes the element of label 31 with this name a measure and puts its path into the path. */
+static int make_measure(int name)
+{
+    static const uint8_t smallest[] = {0, 0, 0, 0x80};
+    for (size_t at = 0; at < ABOVE; at++) {
+        put_step(at, name, below(31));
+    }
+    put_step(ABOVE, name, 31);
+    answer = dossier_update(store, sizeof store, 31, path, sizeof path, DOSSIER_KIND_MEASURE, smallest, sizeof smallest);
+    return answer.number == DOSSIER_DONE;
+}
+
+/* Two measures to grade between, the last and the first of label 31. */
+static int make_measures(void)
+{
+    int done = make_measure(FIRST_NAME + EACH - 1);
+    memcpy(other_path, path, sizeof path);
+    return make_measure(FIRST_NAME) && done;
+}
+
 /* Runs a call on a filled stack of its own: how many bytes of the stack are no longer as they were. */
 static size_t used(void *(*call)(void *))
 {
@@ -152,26 +185,29 @@ static size_t used(void *(*call)(void *))
     return sizeof stack - at;
 }
 
-/* A call is done, and takes no more than so many bytes beside what a thread takes. */
-static void measure(const char *name, void *(*call)(void *), size_t base, size_t most)
+/* A call answers this number, and takes no more than so many bytes beside what a thread takes. */
+static void measure(const char *name, void *(*call)(void *), uint32_t number, size_t base, size_t most)
 {
     size_t bytes = used(call) - base;
     printf("%s: %zu bytes of stack\n", name, bytes);
-    check(name, answer.number == DOSSIER_DONE && bytes <= most);
+    check(name, answer.number == number && bytes <= most);
 }
 
 int main(void)
 {
     check("the store is filled", fill());
     size_t base = used(no_call);
-    measure("view", call_view, base, VIEW_MOST);
+    measure("view", call_view, DOSSIER_DONE, base, VIEW_MOST);
     check("the longest listing known", answer.count == LONGEST);
-    measure("view as XML", call_view_xml, base, XML_MOST);
+    measure("view as XML", call_view_xml, DOSSIER_DONE, base, XML_MOST);
     check("the longest XML known", answer.count == LONGEST_XML);
-    put_step(0, 10000 + EACH * LABELS - 1, 0);
-    measure("update", call_update, base, OTHER_MOST);
-    measure("delete", call_delete, base, OTHER_MOST);
-    measure("insert", call_insert, base, OTHER_MOST);
+    put_step(0, FIRST_NAME + EACH * LABELS - 1, 0);
+    measure("update", call_update, DOSSIER_DONE, base, OTHER_MOST);
+    measure("delete", call_delete, DOSSIER_DONE, base, OTHER_MOST);
+    measure("insert", call_insert, DOSSIER_DONE, base, OTHER_MOST);
+    check("two measures are there", make_measures());
+    measure("grade", call_grade, DOSSIER_DONE, base, OTHER_MOST);
+    measure("grade, refused", call_grade_removed, DOSSIER_REFUSED_NO_MEASURE, base, OTHER_MOST);
     printf("%d passed, %d failed\n", passed, failed);
     return failed == 0 ? 0 : 1;
 }

@@ -1,5 +1,5 @@
-/* Tests the C declarations: answers, listings, XML, what refusals leave untouched and what an update keeps. The last line is
- * 'N passed, N failed'. */
+/* Tests the C declarations: answers, listings, XML, what refusals leave untouched, what an update keeps, and grades. The last
+ * line is 'N passed, N failed'. */
 #include "dossier.h"
 
 #include <stdio.h>
@@ -85,6 +85,19 @@ static void refused(const char *name, struct dossier_answer answer, uint32_t num
     check(name, answer.number == number && answer.count == 0 && memcmp(store, kept, sizeof store) == 0 && is_untouched_from(0));
 }
 
+/* A grade has a step and a remainder and leaves the store that was kept. */
+static void graded(const char *name, struct dossier_grade grade, int64_t step, uint32_t remainder)
+{
+    check(name, grade.number == DOSSIER_DONE && grade.step == step && grade.remainder == remainder
+                    && memcmp(store, kept, sizeof store) == 0);
+}
+
+/* A grade is refused by a number, with step 0 and remainder 0, and leaves the store that was kept. */
+static void not_graded(const char *name, struct dossier_grade grade, uint32_t number)
+{
+    check(name, grade.number == number && grade.step == 0 && grade.remainder == 0 && memcmp(store, kept, sizeof store) == 0);
+}
+
 /* The calls on a store of the right length. */
 static struct dossier_answer view(uint32_t subject, const uint8_t *path, size_t length, size_t room)
 {
@@ -113,17 +126,26 @@ static struct dossier_answer delete(uint32_t subject, const uint8_t *path, size_
     return dossier_delete(store, DOSSIER_STORE_BYTES, subject, path, length);
 }
 
+static struct dossier_grade grade(uint32_t subject, const uint8_t *base, size_t base_length, const uint8_t *top,
+                                  size_t top_length, uint32_t n)
+{
+    return dossier_grade(store, DOSSIER_STORE_BYTES, subject, base, base_length, top, top_length, n);
+}
+
 /* Inserts a group. */
 static struct dossier_answer insert_group(uint32_t subject, const uint8_t *path, size_t length)
 {
     return insert(subject, path, length, DOSSIER_KIND_GROUP, none, 0);
 }
 
-/* The answer lies in memory as the library returns it. */
+/* The answers lie in memory as the library returns them. */
 static void test_answer(void)
 {
     check("the answer has 16 bytes", sizeof(struct dossier_answer) == 16);
     check("the count is at byte 8", offsetof(struct dossier_answer, count) == 8);
+    check("a grade has 24 bytes", sizeof(struct dossier_grade) == 24);
+    check("the step is at byte 8", offsetof(struct dossier_grade, step) == 8);
+    check("the remainder is at byte 16", offsetof(struct dossier_grade, remainder) == 16);
 }
 
 /* The calls of document 01's example that change the store. */
@@ -263,6 +285,7 @@ static void test_store_length(void)
         refused("insert: length", dossier_insert(store, length, 0, LENT(p10), 0, none, 0), 1);
         refused("update: length", dossier_update(store, length, 0, LENT(p10), 0, none, 0), 1);
         refused("delete: length", dossier_delete(store, length, 0, LENT(p10)), 1);
+        not_graded("grade: length", dossier_grade(store, length, 40, LENT(p10), LENT(p10), 0), 1);
     }
 }
 
@@ -278,6 +301,7 @@ static void test_subject(void)
         refused("insert: subject", insert_group(subjects[at], LENT(p10)), 2);
         refused("update: subject", update(subjects[at], LENT(p10), 0, none, 0), 2);
         refused("delete: subject", delete(subjects[at], LENT(p10)), 2);
+        not_graded("grade: subject", grade(subjects[at], LENT(p10), LENT(p10), 0), 2);
     }
 }
 
@@ -292,6 +316,8 @@ static void test_not_well_formed(void)
     refused("insert: partition 16", insert_group(31, LENT(p10)), 3);
     refused("update: partition 16", update(24, LENT(p10), 0, none, 0), 3);
     refused("delete: partition 16", delete(17, LENT(p10)), 3);
+    not_graded("grade: partition 16", grade(18, LENT(p10), LENT(p10), 0), 3);
+    not_graded("grade: 15 does not dominate it", grade(15, LENT(p10), LENT(p10), 1), 7);
     done("15 does not dominate it", view(15, none, 0, sizeof output), 10);
 }
 
@@ -312,6 +338,11 @@ static void test_path(void)
     refused("two bytes", delete(0, p10, 2), 4);
     refused("seven steps", update(0, LENT(seven), 0, none, 0), 4);
     refused("no step", insert_group(0, none, 0), 4);
+    not_graded("grade: name 0", grade(0, LENT(name_0), LENT(p10), 0), 4);
+    not_graded("grade: label 32, the top's", grade(0, LENT(p10), LENT(label_32), 0), 4);
+    not_graded("grade: labels not rising", grade(9, LENT(falling), LENT(p10), 1), 4);
+    not_graded("grade: two bytes, the top's", grade(0, LENT(p10), p10, 2, 1), 4);
+    not_graded("grade: seven steps", grade(0, LENT(seven), none, 0, 1), 4);
 }
 
 /* 5: what is no value. A kind counts on all its bits: 256, 257 and 258 would be kinds in eight. */
@@ -380,6 +411,94 @@ static void test_measure(void)
     check("its listing", memcmp(output, seen, sizeof seen - 1) == 0 && is_untouched_from(sizeof seen - 1));
 }
 
+/* The paths of the worked examples of grades. */
+static const uint8_t g1[] = {1, 0, 0};
+static const uint8_t g2[] = {2, 0, 0};
+static const uint8_t g3[] = {3, 0, 0};
+static const uint8_t g4[] = {4, 0, 0};
+static const uint8_t g5[] = {5, 0, 0};
+static const uint8_t g6[] = {6, 0, 0};
+static const uint8_t g7[] = {7, 0, 16};
+static const uint8_t g8[] = {8, 0, 0};
+static const uint8_t g8_9[] = {8, 0, 0, 9, 0, 16};
+static const uint8_t g99[] = {99, 0, 0};
+
+/* Inserts a measure. */
+static void insert_measure(const char *name, uint32_t subject, const uint8_t *path, size_t length, int32_t number)
+{
+    uint32_t bits = (uint32_t)number;
+    uint8_t bytes[] = {(uint8_t)bits, (uint8_t)(bits >> 8), (uint8_t)(bits >> 16), (uint8_t)(bits >> 24)};
+    done(name, insert(subject, path, length, DOSSIER_KIND_MEASURE, LENT(bytes)), 0);
+}
+
+/* The store of the worked examples of grades: 6:0 is a group, 8:0 is removed, 10:0 is a text. */
+static void make_graded(void)
+{
+    start();
+    insert_measure("1:0", 0, LENT(g1), 1000);
+    insert_measure("2:0", 0, LENT(g2), 1025);
+    insert_measure("3:0", 0, LENT(g3), 990);
+    insert_measure("4:0", 0, LENT(g4), INT32_MIN);
+    insert_measure("5:0", 0, LENT(g5), INT32_MAX);
+    insert_measure("7:16", 16, LENT(g7), 5);
+    done("6:0", insert_group(0, LENT(g6)), 0);
+    done("8:0", insert_group(0, LENT(g8)), 0);
+    insert_measure("8:0/9:16", 16, LENT(g8_9), 6);
+    done("8:0 again", delete(0, LENT(g8)), 1);
+    done("10:0", insert(0, LENT(p10), DOSSIER_KIND_TEXT, (const uint8_t *)"SLEEVE", 6), 0);
+    keep();
+}
+
+/* The worked examples of grades that are done: the step is rounded down and may need more than 32 bits. */
+static void test_grade(void)
+{
+    make_graded();
+    graded("from 1000 to 1025 in 4", grade(0, LENT(g1), LENT(g2), 4), 6, 1);
+    graded("from 1000 to 990 in 3", grade(0, LENT(g1), LENT(g3), 3), -4, 2);
+    graded("one path twice", grade(0, LENT(g1), LENT(g1), 64), 0, 0);
+    graded("from the smallest to the largest", grade(0, LENT(g4), LENT(g5), 1), 4294967295, 0);
+    graded("from the largest to the smallest", grade(0, LENT(g5), LENT(g4), 1), -4294967295, 0);
+    graded("from the largest to the smallest in 64", grade(0, LENT(g5), LENT(g4), 64), -67108864, 1);
+    graded("of two labels", grade(16, LENT(g1), LENT(g7), 2), -498, 1);
+    graded("below a removed element", grade(16, LENT(g8_9), LENT(g1), 7), 142, 0);
+}
+
+/* The worked examples of grades that are refused. 11: n counts on all its bits, and is tested before what is in view. */
+static void test_grade_refused(void)
+{
+    static const uint32_t no_numbers[] = {0, 65, 255, 256, 257, 320, 4294967295u};
+    static const uint8_t name_0[] = {0, 0, 0};
+    static const uint8_t label_40[] = {1, 0, 40};
+    make_graded();
+    for (size_t at = 0; at < sizeof no_numbers / sizeof *no_numbers; at++) {
+        not_graded("11", grade(0, LENT(g1), LENT(g2), no_numbers[at]), DOSSIER_REFUSED_SIZES);
+        not_graded("11 before 7", grade(0, LENT(g1), LENT(g99), no_numbers[at]), DOSSIER_REFUSED_SIZES);
+        not_graded("11 before 12", grade(0, none, 0, LENT(g6), no_numbers[at]), DOSSIER_REFUSED_SIZES);
+    }
+    not_graded("2", grade(40, LENT(g1), LENT(g2), 4), DOSSIER_REFUSED_SUBJECT);
+    not_graded("4, the base", grade(0, LENT(name_0), LENT(g1), 4), DOSSIER_REFUSED_PATH);
+    not_graded("4, the top, before 11", grade(0, LENT(g1), LENT(label_40), 0), DOSSIER_REFUSED_PATH);
+    not_graded("7, the top", grade(0, LENT(g1), LENT(g99), 2), DOSSIER_REFUSED_ABSENT);
+    not_graded("7, the base", grade(0, LENT(g99), LENT(g1), 2), DOSSIER_REFUSED_ABSENT);
+    not_graded("7, a group and what is not there", grade(0, LENT(g6), LENT(g99), 2), DOSSIER_REFUSED_ABSENT);
+    not_graded("7, the root and what is not there", grade(0, none, 0, LENT(g99), 2), DOSSIER_REFUSED_ABSENT);
+    not_graded("7, what 0 does not see", grade(0, LENT(g1), LENT(g7), 2), DOSSIER_REFUSED_ABSENT);
+    not_graded("7, what 0 sees no more", grade(0, LENT(g8), LENT(g1), 2), DOSSIER_REFUSED_ABSENT);
+    not_graded("12, a group", grade(0, LENT(g1), LENT(g6), 2), DOSSIER_REFUSED_NO_MEASURE);
+    not_graded("12, a text", grade(0, LENT(g1), LENT(p10), 2), DOSSIER_REFUSED_NO_MEASURE);
+    not_graded("12, the root", grade(0, none, 0, LENT(g1), 2), DOSSIER_REFUSED_NO_MEASURE);
+    not_graded("12, the root twice", grade(0, none, 0, none, 0, 2), DOSSIER_REFUSED_NO_MEASURE);
+    not_graded("12, a removed element", grade(16, LENT(g8), LENT(g1), 2), DOSSIER_REFUSED_NO_MEASURE);
+}
+
+/* Buffers that are only read may overlap: the names of 1:0 and 2:0 in the store, with a zero behind each, are their paths. */
+static void test_grade_overlap(void)
+{
+    make_graded();
+    graded("paths inside the store", grade(0, store + 5, 3, store + 45, 3, 4), 6, 1);
+    graded("one path inside the store", grade(0, store + 5, 3, store + 5, 3, 4), 0, 0);
+}
+
 int main(void)
 {
     test_answer();
@@ -396,6 +515,9 @@ int main(void)
     test_place();
     test_full();
     test_measure();
+    test_grade();
+    test_grade_refused();
+    test_grade_overlap();
     printf("%d passed, %d failed\n", passed, failed);
     return failed == 0 ? 0 : 1;
 }

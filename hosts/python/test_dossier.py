@@ -1,5 +1,5 @@
-"""The calls through the module: document 01's example, every refusal, what is left untouched, what an update keeps, and XML read
-back.
+"""The calls through the module: document 01's example, every refusal, what is left untouched, what an update keeps, XML read
+back, and grades.
 
     python3 hosts/python/test_dossier.py
 """
@@ -14,8 +14,8 @@ from fractions import Fraction
 
 import dossier
 from dossier import raw
-from dossier import Answer, Compartment, Group, Kind, Label, Level, Line, Measure, Refusal, Refused, Step, Store, Text
-from dossier import UnexpectedAnswer, Unreadable, View
+from dossier import Answer, Compartment, Grade, GradeAnswer, Group, Kind, Label, Level, Line, Measure, Refusal, Refused, Step
+from dossier import Store, Text, UnexpectedAnswer, Unreadable, View
 from dossier.listing import read_xml
 
 # What every output holds before a call.
@@ -78,6 +78,20 @@ def nested(*values):
     return store
 
 
+def measured():
+    """The store of the worked examples of grades: seven measures, the group 6:0, the removed 8:0 and the text 10:0."""
+    store = Store()
+    for name, number in enumerate((1000, 1025, 990, -(2**31), 2**31 - 1), 1):
+        store.insert(label(0), path((name, 0)), Measure(number))
+    store.insert(label(0), path((6, 0)), Group())
+    store.insert(label(16), path((7, 16)), Measure(5))
+    store.insert(label(0), path((8, 0)), Group())
+    store.insert(label(16), path((8, 0), (9, 16)), Measure(6))
+    store.delete(label(0), path((8, 0)))
+    store.insert(label(0), path((10, 0)), Text("SLEEVE"))
+    return store
+
+
 def mixed():
     """A store with every character in texts, versions of one name, and six steps of which the first four are removed."""
     store = worked()
@@ -136,9 +150,16 @@ class CallTest(unittest.TestCase):
             self.assert_refused(number, call, store, subject, path, space)
             self.assertEqual(space, output(room))
 
+    def assert_grade_refused(self, number, store, subject, base, top, n):
+        """A grade is refused by a number, with step 0 and remainder 0, and leaves the store."""
+        before = bytes(store)
+        self.assertEqual(raw.grade(store, subject, base, top, n), GradeAnswer(number, 0, 0))
+        self.assertEqual(bytes(store), before)
+
     def assert_all_refused(self, number, store, subject, path):
         """Each call is refused by a number."""
         self.assert_view_refused(number, store, subject, path)
+        self.assert_grade_refused(number, store, subject, path, path, 1)
         self.assert_writers_refused(number, store, subject, path)
 
     def assert_writers_refused(self, number, store, subject, path):
@@ -148,11 +169,12 @@ class CallTest(unittest.TestCase):
         self.assert_refused(number, raw.delete, store, subject, path)
 
     def assert_raises_refusal(self, refusal, call, *arguments):
-        """A typed call raises a refusal with its number and count 0."""
+        """A typed call raises a refusal with its number and zeros behind it."""
         with self.assertRaises(Refused) as raised:
             call(*arguments)
         self.assertIs(raised.exception.refusal, refusal)
-        self.assertEqual(raised.exception.answer, Answer(int(refusal), 0))
+        answer = raised.exception.answer
+        self.assertEqual(answer, type(answer)(int(refusal), *(0 for _ in answer[1:])))
 
 
 class Done(CallTest):
@@ -307,6 +329,72 @@ class Xml(CallTest):
         self.assertEqual(space, b'<dossier subject="0"></dossier>' + output(9))
 
 
+class Grades(CallTest):
+    """Even grades."""
+
+    def test_worked_examples(self):
+        store = measured()
+        before = bytes(store.buffer)
+        for subject, base, top, n, step, remainder in (
+            (0, [(1, 0)], [(2, 0)], 4, 6, 1),
+            (0, [(1, 0)], [(3, 0)], 3, -4, 2),
+            (0, [(1, 0)], [(1, 0)], 64, 0, 0),
+            (0, [(4, 0)], [(5, 0)], 1, 4294967295, 0),
+            (0, [(5, 0)], [(4, 0)], 1, -4294967295, 0),
+            (0, [(5, 0)], [(4, 0)], 64, -67108864, 1),
+            (16, [(1, 0)], [(7, 16)], 2, -498, 1),
+            (16, [(8, 0), (9, 16)], [(1, 0)], 7, 142, 0),
+        ):
+            grade = store.grade(label(subject), path(*base), path(*top), n)
+            self.assertEqual(grade, Grade(step, remainder))
+            self.assertEqual((grade.step, grade.remainder), (step, remainder))
+        self.assertEqual(bytes(store.buffer), before)
+
+    def test_every_number_of_sizes(self):
+        store = Store()
+        store.insert(label(0), path((1, 0)), Group())
+        store.insert(label(0), path((2, 0)), Group())
+        for low, high in (0, 1), (0, -1), (7, 100), (100, -29), (-64, 64), (-(2**31), 2**31 - 1), (2**31 - 1, -(2**31)):
+            store.update(label(0), path((1, 0)), Measure(low))
+            store.update(label(0), path((2, 0)), Measure(high))
+            for n in range(1, 65):
+                self.assertEqual(store.grade(label(0), path((1, 0)), path((2, 0)), n), divmod(high - low, n))
+
+    def test_7_and_12(self):
+        store = measured()
+        absent, no_measure = Refusal.ABSENT, Refusal.NO_MEASURE
+        for subject, base, top, refusal in (
+            (0, [(1, 0)], [(99, 0)], absent),
+            (0, [(6, 0)], [(99, 0)], absent),
+            (0, [], [(99, 0)], absent),
+            (0, [(1, 0)], [(7, 16)], absent),
+            (0, [(1, 0)], [(8, 0)], absent),
+            (0, [(1, 0)], [(6, 0)], no_measure),
+            (0, [(1, 0)], [(10, 0)], no_measure),
+            (0, [], [(1, 0)], no_measure),
+            (0, [], [], no_measure),
+            (16, [(8, 0)], [(1, 0)], no_measure),
+        ):
+            for one, two in (base, top), (top, base):
+                self.assert_raises_refusal(refusal, store.grade, label(subject), path(*one), path(*two), 2)
+
+    def test_11_sizes_on_all_their_bits(self):
+        store = measured().buffer
+        for n in 0, 65, 255, 256, 257, 320, 2**32 - 1:
+            self.assert_grade_refused(11, store, 0, b"\1\0\0", b"\2\0\0", n)
+            self.assert_grade_refused(11, store, 0, b"\1\0\0", b"\x63\0\0", n)
+            self.assert_grade_refused(11, store, 0, b"", b"\6\0\0", n)
+            self.assert_grade_refused(4, store, 0, b"\1\0\0", b"\1\0\x28", n)
+            self.assert_raises_refusal(Refusal.SIZES, Store(store).grade, label(0), path((1, 0)), path((2, 0)), n)
+
+    def test_buffers_that_are_only_read(self):
+        store = measured().buffer
+        inside = memoryview(store)
+        for lent in store, bytes(store), inside:
+            self.assertEqual(raw.grade(lent, 0, inside[5:8], inside[45:48], 4), GradeAnswer(0, 6, 1))
+            self.assertEqual(raw.grade(lent, 0, inside[5:8], inside[5:8], 4), GradeAnswer(0, 0, 0))
+
+
 class Refusals(CallTest):
     """Refusals 1 to 10, on the numbers as they are."""
 
@@ -316,6 +404,7 @@ class Refusals(CallTest):
             self.assert_all_refused(1, store, 40, P10)
             self.assert_raises_refusal(Refusal.STORE_LENGTH, Store(store).view, label(0))
             self.assert_raises_refusal(Refusal.STORE_LENGTH, Store(store).view_xml, label(0))
+            self.assert_raises_refusal(Refusal.STORE_LENGTH, Store(store).grade, label(0), path((10, 0)), (), 0)
             self.assert_raises_refusal(Refusal.STORE_LENGTH, Store(store).insert, label(0), path((10, 0)), Group())
             self.assert_raises_refusal(Refusal.STORE_LENGTH, Store(store).update, label(0), path((10, 0)), Group())
             self.assert_raises_refusal(Refusal.STORE_LENGTH, Store(store).delete, label(0), path((10, 0)))
@@ -334,11 +423,15 @@ class Refusals(CallTest):
         self.assertEqual(store.view_xml(label(15)), '<dossier subject="15"></dossier>')
         self.assert_raises_refusal(Refusal.NOT_WELL_FORMED, store.view, label(16))
         self.assert_raises_refusal(Refusal.NOT_WELL_FORMED, store.view_xml, label(16))
+        self.assert_raises_refusal(Refusal.NOT_WELL_FORMED, store.grade, label(16), (), (), 1)
+        self.assert_raises_refusal(Refusal.NO_MEASURE, store.grade, label(15), (), (), 1)
 
     def test_4_what_is_no_path(self):
         store = Store()
         for no_path in b"\0\0\0", b"\x0a\0\x20", b"\x0a\0\x10\x14\0\x09", b"\x0a\0", b"\1\0\0" * 7:
             self.assert_all_refused(4, store.buffer, 9, no_path)
+            self.assert_grade_refused(4, store.buffer, 9, no_path, P10, 0)
+            self.assert_grade_refused(4, store.buffer, 9, P10, no_path, 0)
         self.assert_writers_refused(4, store.buffer, 0, b"")
         self.assert_raises_refusal(Refusal.PATH, store.insert, label(0), path((0, 0)), Group())
 
@@ -393,6 +486,8 @@ class Wrapper(CallTest):
                 (raw.update, (number, P10, *GROUP)),
                 (raw.update, (0, P10, number, b"")),
                 (raw.delete, (number, P10)),
+                (raw.grade, (number, P10, P10, 1)),
+                (raw.grade, (0, P10, P10, number)),
             ):
                 self.assertRaises(ValueError, call, store, *arguments)
         self.assertEqual(store, Store().buffer)
@@ -439,7 +534,9 @@ class Wrapper(CallTest):
         self.assertEqual(Answer(0, 40).outcome(), 40)
         for refusal in Refusal:
             self.assert_raises_refusal(refusal, Answer(int(refusal), 0).outcome)
-        for answer in Answer(11, 0), Answer(7, 1):
+            self.assert_raises_refusal(refusal, GradeAnswer(int(refusal), 0, 0).outcome)
+        self.assertEqual(GradeAnswer(0, -4, 2).outcome(), Grade(-4, 2))
+        for answer in Answer(13, 0), Answer(7, 1), GradeAnswer(13, 0, 0), GradeAnswer(7, -1, 0), GradeAnswer(12, 0, 1):
             with self.assertRaises(UnexpectedAnswer) as raised:
                 answer.outcome()
             self.assertEqual(raised.exception.answer, answer)
@@ -475,9 +572,11 @@ class WholeNumbers(CallTest):
             self.assertRaises(TypeError, store.insert, label(0), steps, Group())
             self.assertRaises(TypeError, store.update, label(0), steps, Group())
             self.assertRaises(TypeError, store.delete, label(0), steps)
+            self.assertRaises(TypeError, store.grade, label(0), steps, (), 1)
+            self.assertRaises(TypeError, store.grade, label(0), (), steps, 1)
         self.assertEqual(store.buffer, Store().buffer)
 
-    def test_subjects_and_kinds(self):
+    def test_subjects_kinds_and_sizes(self):
         store = Store().buffer
         for number in NOT_WHOLE:
             self.assertRaises(TypeError, raw.view, store, number, P10, output())
@@ -487,6 +586,8 @@ class WholeNumbers(CallTest):
             self.assertRaises(TypeError, raw.update, store, number, P10, *GROUP)
             self.assertRaises(TypeError, raw.update, store, 0, P10, number, b"")
             self.assertRaises(TypeError, raw.delete, store, number, P10)
+            self.assertRaises(TypeError, raw.grade, store, number, P10, P10, 1)
+            self.assertRaises(TypeError, raw.grade, store, 0, P10, P10, number)
         self.assertEqual(store, Store().buffer)
 
     def test_lengths(self):
@@ -503,6 +604,7 @@ class WholeNumbers(CallTest):
         store = Store()
         store.insert(Label(Index(0)), [Step(Index(10), Label(0))], Measure(Index(-150)))
         self.assertEqual(store.view(label(0)).listing, b"VIEW\t0\t1\n1\t10\t0\tP\tM\t-150\n")
+        self.assertEqual(raw.grade(store.buffer, Index(0), P10, P10, Index(64)), GradeAnswer(0, 0, 0))
         self.assertEqual(raw.delete(store.buffer, Index(0), P10), Answer(0, 1))
 
 
@@ -519,16 +621,22 @@ class Carried(CallTest):
     def test_errors(self):
         for refusal in Refusal:
             self.assert_carried(Refused(Answer(int(refusal), 0)))
+            self.assert_carried(Refused(GradeAnswer(int(refusal), 0, 0)))
         self.assert_carried(UnexpectedAnswer(Answer(7, 1)))
+        self.assert_carried(UnexpectedAnswer(GradeAnswer(7, -1, 2)))
         self.assert_carried(Unreadable(b"1\t10"))
 
     def test_what_an_error_says(self):
         self.assertEqual(str(Refused(Answer(7, 0))), "refused by 7: ABSENT")
+        self.assertEqual(str(Refused(GradeAnswer(12, 0, 0))), "refused by 12: NO_MEASURE")
         self.assertEqual(str(UnexpectedAnswer(Answer(11, 2))), "unexpected answer: number 11, count 2")
+        unexpected = UnexpectedAnswer(GradeAnswer(7, -1, 2))
+        self.assertEqual(str(unexpected), "unexpected answer: number 7, step -1, remainder 2")
 
     def test_values(self):
         lines = list(example().view(label(16)))
-        for value in Answer(7, 0), label(19), Step(10, label(16)), Group(), Measure(-150), Text("SLEEVE"), lines:
+        answers = [Answer(7, 0), GradeAnswer(7, 0, 0), Grade(-4, 2)]
+        for value in answers + [label(19), Step(10, label(16)), Group(), Measure(-150), Text("SLEEVE"), lines]:
             self.assertEqual(pickle.loads(pickle.dumps(value)), value)
         self.assertEqual(pickle.loads(pickle.dumps(example())).buffer, example().buffer)
         self.assertEqual(pickle.loads(pickle.dumps(example().view(label(16)))).listing, LISTING)

@@ -1,5 +1,5 @@
 // The fields of a record's head: byte 0 what is to be done, 1 and 2 the lengths of the two texts, then from byte 4 on three words,
-// lowest byte first: the store's length; a subject or a place; a kind or the output's length.
+// lowest byte first: the store's length; a subject or a place; a kind, a number of sizes or the output's length.
 ghost use mathlib.Core.Path.{_≡_};
 ghost use Prim.Native.Nat.{_+_, _*_, _≤_};
 ghost use lib.ListN.{getD};
@@ -25,11 +25,21 @@ pub fn subject(head: &[u8; 16]) -> u32
     word(head[8], head[9], head[10], head[11])
 }
 
-// The kind of the value.
-pub fn kind(head: &[u8; 16]) -> u32
+// The last word.
+fn third(head: &[u8; 16]) -> u32
     ensures { λ r. ⌜ r ≡ getD (now (head .entry)) 12 0 + 256 * getD (now (head .entry)) 13 0 + 65536 * getD (now (head .entry)) 14 0 + 16777216 * getD (now (head .entry)) 15 0 ⌝ }
 {
     word(head[12], head[13], head[14], head[15])
+}
+
+// The kind of the value.
+pub fn kind(head: &[u8; 16]) -> u32 {
+    third(head)
+}
+
+// The number of sizes.
+pub fn sizes(head: &[u8; 16]) -> u32 {
+    third(head)
 }
 
 // The smaller of a word and a bound.
@@ -54,7 +64,7 @@ pub fn offset(head: &[u8; 16], most: usize) -> usize
 pub fn output_length(head: &[u8; 16], most: usize) -> usize
     ensures { λ r. ⌜ r ≤ most ⌝ }
 {
-    at_most(kind(head), most)
+    at_most(third(head), most)
 }
 
 // The length of the store, at most a bound.

@@ -1,4 +1,4 @@
-// The five calls, executed: reads records, carries out each on one store, and writes what the calls answer.
+// The six calls, executed: reads records, carries out each on one store, and writes what the calls answer.
 // tools/call_cases.py makes the records and the output that they must give.
 mod fields;
 mod run;

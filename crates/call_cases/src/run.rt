@@ -4,8 +4,8 @@ use crate::show;
 use libc::STDOUT_FILENO;
 ghost use Prim.Native.Nat.{_≤_};
 
-// One record, by its first byte: the calls have the letters of the runner, and M is the view as XML; N names the case by a line, Z clears
-// the store, X corrupts it, S shows it.
+// One record, by its first byte: the calls have the letters of the runner, M is the view as XML and G the even grade; N names the case by
+// a line, Z clears the store, X corrupts it, S shows it.
 pub fn record(
     store: &mut [u8; 42372],
     output: &mut [u8; 65536],
@@ -19,6 +19,7 @@ pub fn record(
         b'I' => insert(store, head, first, second),
         b'U' => update(store, head, first, second),
         b'D' => delete(store, head, first),
+        b'G' => grade(store, head, first, second),
         b'X' => corrupt(store, head, first),
         b'Z' => fill(store, 0),
         b'S' => show::store(store),
@@ -65,6 +66,19 @@ fn delete(store: &mut [u8], head: &[u8; 16], path: &[u8]) {
     let size = fields::store_length(head, store.len());
     let done = dossier::delete(&mut store[0..size], fields::subject(head), path);
     show::answer(b"D", done.number, done.count);
+}
+
+// An even grade, in as many sizes as the head says.
+fn grade(store: &[u8], head: &[u8; 16], base: &[u8], top: &[u8]) {
+    let size = fields::store_length(head, store.len());
+    let done = dossier_grade::grade(
+        &store[0..size],
+        fields::subject(head),
+        base,
+        top,
+        fields::sizes(head),
+    );
+    show::grade(done.number, done.step, done.remainder);
 }
 
 // A view, into as many bytes of the output as the head says.

@@ -25,6 +25,27 @@ pub fn answer(letter: &[u8], number: u32, count: usize) {
     io::write_all(STDOUT_FILENO, b"\n");
 }
 
+// What an even grade answers: its number, the step and the remainder.
+pub fn grade(number: u32, step: i64, remainder: u32) {
+    io::write_all(STDOUT_FILENO, b"G ");
+    io::print_decimal(STDOUT_FILENO, number as u64);
+    io::write_all(STDOUT_FILENO, b" ");
+    whole(step);
+    io::write_all(STDOUT_FILENO, b" ");
+    io::print_decimal(STDOUT_FILENO, remainder as u64);
+    io::write_all(STDOUT_FILENO, b"\n");
+}
+
+// A whole number, with a minus sign if it is negative.
+fn whole(x: i64) {
+    if x < 0 {
+        io::write_all(STDOUT_FILENO, b"-");
+        io::print_decimal(STDOUT_FILENO, (-1 - x) as u64 + 1);
+        return;
+    }
+    io::print_decimal(STDOUT_FILENO, x as u64);
+}
+
 // The store's partitions, and what stands behind them.
 pub fn store(store: &[u8; 42372]) {
     let mut i: usize = 0;

@@ -9,7 +9,7 @@ use lib.Seq.{lt-length-set, take-all, take-at, length-take-le, drop-append-le}
 use Rattle.model.specs.Path.{Step, isPrefix, stepsOf}
 use Rattle.model.specs.Value.{Content}
 use Rattle.model.specs.Model.{openModel, ownSet}
-use Rattle.model.specs.Call.{Call, by, Op, subjectOf, view, insert, update, delete, extending, Result, count, Told, counted, Outcome, refused, done, effect, writes, changes}
+use Rattle.model.specs.Call.{Call, by, Op, subjectOf, view, insert, update, delete, extending, Result, count, graded, Told, counted, Outcome, refused, done, effect, writes, changes}
 use Rattle.model.specs.Run.{answerOf, storeAfter}
 use Rattle.model.specs.Script.{contentOf, outputSpace}
 use Rattle.model.proofs.Sets.{length-keep}
@@ -146,9 +146,10 @@ extending-few : (p : List Step) (s : ℕ) (b : List ℕ) → extending p (ownSet
 unfolding extending
 extending-few p s b = omega (arith, length-keep (λ e. isPrefix p (e .path)) (ownSet s (openModel b)), open-valid b s .few)
 
--- a count of at most the output's room
+-- a count of at most the output's room; no line asks for a grade
 abbrev pub Small : Result → Type 0
 Small (count n) = n ≤ 16384
+Small (graded z r) = ⊥
 
 pub answer-small : (s : ℕ) (k : read.Call) (p l b : List ℕ)
     → Small (answerOf (by s (opOn k p l)) b .told .result) × (length (answerOf (by s (opOn k p l)) b .written) ≤ 16384)

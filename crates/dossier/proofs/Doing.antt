@@ -33,7 +33,7 @@ use Rattle.promise.proofs.Doing.{acted-refused, acted-done}
 
 pub view-looks : (s : ℕ) (b p o : List ℕ) → Looks (view p (length o)) s b p o (listing s (openModel b) (stepsOf p))
 unfolding opRows effect
-view-looks s b p o = record { rows = refl; does = refl }
+view-looks s b p o = record { rows = refl; counts = refl; does = refl }
 
 -- ---- what is brought
 

@@ -1,11 +1,19 @@
 // The calls as C functions. A slice is passed as a pointer and a length; the result is returned by value.
-ghost use Rattle.promise.specs.Did.{Viewed, Inserted, Updated, Deleted, ViewedXml};
+ghost use Rattle.promise.specs.Did.{Viewed, Inserted, Updated, Deleted, ViewedXml, Graded};
 
 // What a call answers: 0 or the number of its refusal, and its count.
 #[repr(C)]
 pub struct Answer {
     pub number: u32,
     pub count: u64,
+}
+
+// What an even grade answers: 0 or the number of its refusal, and the step and the remainder.
+#[repr(C)]
+pub struct Grade {
+    pub number: u32,
+    pub step: i64,
+    pub remainder: u32,
 }
 
 // Lists the path and everything in the subject's view below it into the output: how many bytes were written.
@@ -82,5 +90,24 @@ pub extern "C" fn dossier_view_xml(
     Answer {
         number: done.number,
         count: done.count as u64,
+    }
+}
+
+// The even grade from the measure at one path to the measure at another in n sizes: the step, rounded down, and the remainder.
+#[no_mangle]
+pub extern "C" fn dossier_grade(
+    store: &[u8],
+    subject: u32,
+    base: &[u8],
+    top: &[u8],
+    n: u32,
+) -> Grade
+    ensures { λ r. ⌜ Graded subject (now (base .entry)) (now (top .entry)) n (now (store .entry)) (r .number) (r .step) (r .remainder) ⌝ }
+{
+    let done = dossier_grade::grade(store, subject, base, top, n);
+    Grade {
+        number: done.number,
+        step: done.step,
+        remainder: done.remainder,
     }
 }

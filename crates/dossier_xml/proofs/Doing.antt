@@ -11,4 +11,4 @@ use Rattle.table.proofs.Looking.{Looks}
 
 pub xml-looks : (s : ℕ) (b p o : List ℕ) → Looks (viewXml p (length o)) s b p o (xmlView s (openModel b) (stepsOf p))
 unfolding opRows effect
-xml-looks s b p o = record { rows = refl; does = refl }
+xml-looks s b p o = record { rows = refl; counts = refl; does = refl }

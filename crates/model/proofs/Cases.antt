@@ -4,6 +4,7 @@ use mathlib.Core.Bool.{Bool, true, false, not, _&&_}
 use mathlib.Core.Option.{Option, none, some}
 use mathlib.Core.List.{List, [], _∷_, _++_, map}
 use Prim.Native.Nat.{ℕ}
+use lib.IntN.{ℤ, pos, negsuc}
 use lib.Dec.{T, eqb}
 use mir.Facts.{eqb-yes}
 use Rattle.model.specs.Lists
@@ -20,8 +21,9 @@ use Rattle.model.specs.Text.{ascii, decimal, measureOf, signed, isDigit}
 use Rattle.model.specs.View.{visible, inView, listed, letter, shown, pathLine, headLine, listingOf, listing}
 use Rattle.model.specs.Tree.{shownBelow, forest}
 use Rattle.model.specs.Xml.{escaped, startTag, endTag, valueXml, outerTag, document, xmlOf, xmlView}
+use Rattle.model.specs.Grade.{wholeOf, measureAt}
 use Rattle.model.specs.Rows.{refusal, someRaw, goodPath, viewPath}
-use Rattle.model.specs.Call.{subjectOf, callerRows, opRows, table, Result, count as counts, Answer, Outcome, writes, changes, extending, added, replaced, effect, refused, done, outcome, after}
+use Rattle.model.specs.Call.{subjectOf, callerRows, opRows, table, Result, count as counts, graded, Answer, Outcome, writes, changes, extending, added, replaced, effect, refused, done, outcome, after}
 use Rattle.model.specs.Run.{answerOf, storeAfter, corrupted, feed}
 use Rattle.model.specs.Script.{ScriptCall, stepText, callText, inRange, callOf, linesOf, unreadLine, answerLines, output}
 use Rattle.model.specs.Cases.{Expected, holds, Case, dominance, onStore, calls, script, storeAfterAll, AllHeld, Holds, markedCases, furtherCases, cases}
@@ -35,8 +37,17 @@ use Rattle.model.proofs.Empty.{emptyModel, all-remain, agree-empty}
 
 -- ---- a row as a test, of the model
 
+sameWhole : ℤ → ℤ → Bool
+sameWhole (pos a) (pos b) = eqb a b
+sameWhole (pos a) (negsuc b) = false
+sameWhole (negsuc a) (pos b) = false
+sameWhole (negsuc a) (negsuc b) = eqb a b
+
 sameResult : Result → Result → Bool
 sameResult (counts m) (counts n) = eqb m n
+sameResult (counts m) (graded z r) = false
+sameResult (graded y q) (counts n) = false
+sameResult (graded y q) (graded z r) = sameWhole y z && eqb q r
 
 sameAnswer : Answer → Answer → Bool
 sameAnswer a b = eqb (a .told .number) (b .told .number) && sameResult (a .told .result) (b .told .result) && sameBytes (a .written) (b .written)
@@ -60,9 +71,20 @@ caseTest (script i o) = sameBytes (ascii o) (modelOutput (map readLine (linesOf 
 
 -- ---- a row that passes holds of the bytes
 
+same-whole : (a b : ℤ) → T (sameWhole a b) → a ≡ b
+unfolding sameWhole
+same-whole (pos a) (pos b) t = ap pos (eqb-yes t)
+same-whole (pos a) (negsuc b) t = absurd t
+same-whole (negsuc a) (pos b) t = absurd t
+same-whole (negsuc a) (negsuc b) t = ap negsuc (eqb-yes t)
+
 same-result : (a b : Result) → T (sameResult a b) → a ≡ b
 unfolding sameResult
 same-result (counts m) (counts n) t = ap counts (eqb-yes t)
+same-result (counts m) (graded z r) t = absurd t
+same-result (graded y q) (counts n) t = absurd t
+same-result (graded y q) (graded z r) t =
+    ap₂ graded (same-whole y z (and-l (sameWhole y z) (eqb q r) t)) (eqb-yes (and-r (sameWhole y z) (eqb q r) t))
 
 same-answer : (a b : Answer) → T (sameAnswer a b) → a ≡ b
 unfolding sameAnswer
@@ -112,12 +134,12 @@ case-holds (script i o) t =
 -- ---- the whole table passes
 
 tested : T (all caseTest cases)
-unfolding sameResult sameAnswer emptyModel cases markedCases furtherCases isByte pad isLabel level sizing fabric cost includes
+unfolding sameWhole sameResult sameAnswer emptyModel cases markedCases furtherCases isByte pad isLabel level sizing fabric cost includes
     dominates sameStep validStep validPath key isPrintable allowed storable bringable validElement contains closed remove
     pathBytes contentBytes slotBytes readPath readContent readSlot unusedZero layout slots readPartition wellFormedBy hasPartition
     partition replace isHeld elements openCell cellBytes openModel ownSet live decimal measureOf signed visible inView listed
     letter shown pathLine headLine listingOf listing shownBelow forest escaped startTag endTag valueXml outerTag document xmlOf
-    xmlView subjectOf refusal someRaw goodPath viewPath callerRows opRows table writes changes extending added replaced effect
+    xmlView wholeOf measureAt subjectOf refusal someRaw goodPath viewPath callerRows opRows table writes changes extending added replaced effect
     refused done outcome after answerOf storeAfter corrupted emptyStore callText inRange stepText callOf unreadLine answerLines
     isDigit callGuess stepGuess readable readLine
 tested = tt

@@ -18,7 +18,10 @@ pub mod Operations
 pub mod Noninterference
 pub mod Refusals
 pub mod Updates
+pub mod Hidden
 pub mod Marks
+pub mod Dividing
+pub mod Grades
 pub mod Listings
 pub mod Trees
 pub mod Balance

@@ -17,9 +17,10 @@ use Rattle.model.specs.Store.{storeSize}
 use Rattle.model.specs.Model.{Model, ownSet, live}
 use Rattle.model.specs.View.{visible, reaches, inView, listingOf, listing}
 use Rattle.model.specs.Xml.{xmlOf, xmlView}
-use Rattle.model.specs.Rows.{Row, row, refusal, goodPath, someRaw, sizeRows, pathRows, viewPathRows, lookRows, bringRows, ownLiveRows, placeRows, roomRows}
-use Rattle.model.specs.Call.{Op, view, insert, update, delete, viewXml, Call, callSubject, callerRows, opRows, table}
-use Rattle.model.specs.Call.{Result, count, Effect, writes, changes, extending, added, replaced, effect, Outcome, refused, done, outcomeBy, outcome}
+use Rattle.model.specs.Grade.{isMeasure, measureAt}
+use Rattle.model.specs.Rows.{Row, row, refusal, goodPath, someRaw, sizeRows, pathRows, viewPathRows, lookRows, bringRows, ownLiveRows, placeRows, roomRows, askedRows}
+use Rattle.model.specs.Call.{Op, view, insert, update, delete, viewXml, grade, Call, callSubject, callerRows, opRows, table}
+use Rattle.model.specs.Call.{Result, count, Effect, writes, changes, extending, added, replaced, gradeOf, effect, Outcome, refused, done, outcomeBy, outcome}
 use Rattle.model.proofs.Bools.{not-not}
 use Rattle.model.proofs.Partitions.{ValidSet}
 use Rattle.model.proofs.Sets.{remove-valid}
@@ -34,6 +35,7 @@ roomOf (insert p c) = 0
 roomOf (update p c) = 0
 roomOf (delete p) = 0
 roomOf (viewXml p room) = room
+roomOf (grade p q n) = 0
 
 pub record OpLaws (o : Op) : Type 0 where
   pub rows-local : (s : ℕ) (m : Model) → T (isLabel s) → refusal (opRows o s m) ≡ refusal (opRows o s (restrict s m))
@@ -120,6 +122,25 @@ xml-reads : (p : List ℕ) (room : ℕ) → Reading (viewXml p room)
 unfolding opRows effect xmlView
 xml-reads p room = looking p (λ s v. xmlOf s v (stepsOf p)) (λ s m. refl) (λ s m. refl)
 
+-- an even grade writes nothing: what is visible gives its rows and its result
+grade-reads : (p q : List ℕ) (n : ℕ) → Reading (grade p q n)
+unfolding opRows effect inView
+grade-reads p q n =
+    record {
+      rows = λ s v own. askedRows p q n ++ (seen v p ∷ seen v q ∷ measured v p ∷ measured v q ∷ []);
+      result = λ s v own. gradeOf n (measureAt v (stepsOf p)) (measureAt v (stepsOf q));
+      text = λ s v own. [];
+      rows-are = λ s m. refl;
+      effect-is = λ s m. refl;
+      text-fits = λ s v own h. omega arith;
+    }
+  where
+    seen : List Element → List ℕ → Row
+    seen v x = row 7 (not (reaches v (stepsOf x)))
+
+    measured : List Element → List ℕ → Row
+    measured v x = row 12 (not (isMeasure (measureAt v (stepsOf x))))
+
 -- a path and a content that passed rows 4 and 5, and an element made of them
 pub record Brought (p : List ℕ) (c : Content) : Type 0 where
   pub path : T (goodPath p)
@@ -199,6 +220,7 @@ op-laws (insert p c) = changing-laws (insert-changes p c)
 op-laws (update p c) = changing-laws (update-changes p c)
 op-laws (delete p) = changing-laws (delete-changes p)
 op-laws (viewXml p room) = reading-laws (xml-reads p room)
+op-laws (grade p q n) = reading-laws (grade-reads p q n)
 
 -- ---- a call
 

@@ -3,6 +3,7 @@ use mathlib.Core.Bool.{cond}
 use mathlib.Core.Option.{Option, none, some}
 use mathlib.Core.List.{List, [], _++_, map}
 use Prim.Native.Nat.{ℕ}
+use lib.IntN.{ℤ, pos, _-ℤ_}
 use lib.ListN.{length}
 use Rattle.model.specs.Lists.{keep}
 use Rattle.model.specs.Sets.{put}
@@ -10,9 +11,10 @@ use Rattle.model.specs.Path.{Step, samePath, isPrefix, stepsOf}
 use Rattle.model.specs.Value.{Content}
 use Rattle.model.specs.Element.{Element, rank, remove}
 use Rattle.model.specs.Model.{Model, ownSet, withSet}
-use Rattle.model.specs.View.{listing}
+use Rattle.model.specs.View.{visible, listing}
 use Rattle.model.specs.Xml.{xmlView}
-use Rattle.model.specs.Rows.{Row, refusal, sizeRows, labelRows, formedRows, pathRows, lookRows, bringRows, ownLiveRows, placeRows, roomRows}
+use Rattle.model.specs.Grade.{measureAt, stepOf, remainderOf}
+use Rattle.model.specs.Rows.{Row, refusal, sizeRows, labelRows, formedRows, pathRows, lookRows, bringRows, ownLiveRows, placeRows, roomRows, askedRows, measuredRows}
 
 -- who calls
 pub data Caller : Type 0 where
@@ -28,6 +30,7 @@ pub data Op : Type 0 where
   update : (path : List ℕ) (content : Content) → Op
   delete : (path : List ℕ) → Op
   viewXml : (path : List ℕ) (room : ℕ) → Op
+  grade : (base top : List ℕ) (sizes : ℕ) → Op
 
 pub record Call : Type 0 where
   pub who : Caller
@@ -53,6 +56,7 @@ opRows (insert p c) s m = bringRows p c ++ placeRows s m (stepsOf p)
 opRows (update p c) s m = bringRows p c ++ ownLiveRows s m (stepsOf p)
 opRows (delete p) s m = pathRows p ++ ownLiveRows s m (stepsOf p)
 opRows (viewXml p room) s m = lookRows s m p ++ roomRows room (xmlView s m (stepsOf p))
+opRows (grade p q n) s m = askedRows p q n ++ measuredRows s m (stepsOf p) (stepsOf q)
 
 unfoldable pub table : Call → Model → List Row
 table c m =
@@ -64,6 +68,7 @@ table c m =
 -- what a call yields beside its number
 pub data Result : Type 0 where
   count : ℕ → Result
+  graded : (step : ℤ) (remainder : ℕ) → Result
 
 -- what it tells: 0 or the number of its refusal, and the result
 pub record Told : Type 0 where
@@ -108,16 +113,28 @@ added p c es = put rank (record { path = p; content = c }) es
 unfoldable pub replaced : List Step → Content → List Element → List Element
 replaced p c es = map (λ e. cond (samePath p (e .path)) (record { path = p; content = c }) e) es
 
+-- the even grade from one measure to another in n sizes; without measures there is none
+abbrev pub gradeOf : ℕ → (base top : Option ℤ) → Result
+gradeOf n (some a) (some b) = graded (stepOf n (b -ℤ a)) (remainderOf n (b -ℤ a))
+gradeOf n (some a) none = graded (pos 0) 0
+gradeOf n none b = graded (pos 0) 0
+
 unfoldable pub effect : Op → ℕ → Model → Effect
 effect (view p room) s m = writes (count (length (listing s m (stepsOf p)))) (listing s m (stepsOf p))
 effect (insert p c) s m = changes (count 0) (added (stepsOf p) c (ownSet s m))
 effect (update p c) s m = changes (count 1) (replaced (stepsOf p) c (ownSet s m))
 effect (delete p) s m = changes (count (extending (stepsOf p) (ownSet s m))) (remove (stepsOf p) (ownSet s m))
 effect (viewXml p room) s m = writes (count (length (xmlView s m (stepsOf p)))) (xmlView s m (stepsOf p))
+effect (grade p q n) s m = writes (gradeOf n (measureAt (visible s m) (stepsOf p)) (measureAt (visible s m) (stepsOf q))) []
 
 -- what an operation yields that is refused: nothing
 abbrev pub nothing : Op → Result
-nothing o = count 0
+nothing (view p room) = count 0
+nothing (insert p c) = count 0
+nothing (update p c) = count 0
+nothing (delete p) = count 0
+nothing (viewXml p room) = count 0
+nothing (grade p q n) = graded (pos 0) 0
 
 unfoldable pub refused : ℕ → Op → Outcome
 refused k o = record { answer = record { told = record { number = k; result = nothing o }; written = [] }; change = none }

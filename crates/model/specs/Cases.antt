@@ -5,6 +5,7 @@ use mathlib.Core.Bool.{Bool, true, false}
 use mathlib.Core.List.{List, [], _∷_, _++_, map}
 use Prim.Native.Nat.{ℕ}
 use Prim.Native.String.{String}
+use lib.IntN.{ℤ, pos, negsuc}
 use lib.ListN.{take, replicate}
 use Rattle.model.specs.Lists.{range, pad}
 use Rattle.model.specs.Label.{dominates}
@@ -13,7 +14,7 @@ use Rattle.model.specs.Value.{Content}
 use Rattle.model.specs.Partition.{partitionSize}
 use Rattle.model.specs.Store.{partition, emptyStore}
 use Rattle.model.specs.Text.{ascii}
-use Rattle.model.specs.Call.{view, insert, update, delete, viewXml, Call, by, count, Answer}
+use Rattle.model.specs.Call.{view, insert, update, delete, viewXml, grade, Call, by, count, graded, Answer}
 use Rattle.model.specs.Run.{answerOf, storeAfter, call, corrupted, run}
 use Rattle.model.specs.Script.{lentPath, Prints}
 
@@ -74,6 +75,13 @@ refusedBy k = record { told = record { number = k; result = count 0 }; written =
 abbrev printed : ℕ → String → Answer
 printed n t = record { told = record { number = 0; result = count n }; written = ascii t }
 
+-- a grade that is done, and one that is refused
+abbrev evenly : ℤ → ℕ → Answer
+evenly z r = record { told = record { number = 0; result = graded z r }; written = [] }
+
+abbrev ungraded : ℕ → Answer
+ungraded k = record { told = record { number = k; result = graded (pos 0) 0 }; written = [] }
+
 -- ---- calls of the rows
 
 -- 10:0, and 20:16 under it
@@ -128,6 +136,27 @@ xmlCalls =
     ∷ by 16 (insert (path (step 11 16 ∷ [])) (text "&"))
     ∷ by 0 (insert (path (step 10 0 ∷ step 7 0 ∷ [])) (text "SLEEVE"))
     ∷ by 0 (delete p10)
+    ∷ []
+
+-- a path of one step; one of two; seven measures, among them the least and the greatest, a group and a removed element
+abbrev one : ℕ → ℕ → List ℕ
+one n l = path (step n l ∷ [])
+
+abbrev p7 : List ℕ
+p7 = path (step 6 0 ∷ step 7 16 ∷ [])
+
+abbrev sizeCalls : List Call
+sizeCalls =
+    by 0 (insert (one 1 0) (measure 232 3 0 0))
+    ∷ by 0 (insert (one 2 0) (measure 1 4 0 0))
+    ∷ by 0 (insert (one 3 0) (measure 222 3 0 0))
+    ∷ by 0 (insert (one 4 0) (measure 0 0 0 128))
+    ∷ by 0 (insert (one 5 0) (measure 255 255 255 127))
+    ∷ by 0 (insert (one 6 0) group)
+    ∷ by 16 (insert p7 (measure 5 0 0 0))
+    ∷ by 0 (insert (one 8 0) group)
+    ∷ by 16 (insert (path (step 8 0 ∷ step 9 16 ∷ [])) (measure 6 0 0 0))
+    ∷ by 0 (delete (one 8 0))
     ∷ []
 
 -- an element n:0, and 32 of them
@@ -277,6 +306,25 @@ furtherCases =
     ∷ calls (insert10 ∷ []) (by 0 (viewXml p10 16384))
     (printed 80 "<dossier subject=\"0\"><e10 label=\"0\" preserve=\"PRESENT\" kind=\"G\"></e10></dossier>") []
     ∷ calls xmlCalls (by 16 (viewXml (path (step 9 0 ∷ [])) 16384)) (refusedBy 7) []
+    -- even grades: up, down, by one path, over the whole range and back
+    ∷ calls sizeCalls (by 0 (grade (one 1 0) (one 2 0) 4)) (evenly (pos 6) 1) []
+    ∷ calls sizeCalls (by 0 (grade (one 1 0) (one 3 0) 3)) (evenly (negsuc 3) 2) []
+    ∷ calls sizeCalls (by 0 (grade (one 1 0) (one 1 0) 64)) (evenly (pos 0) 0) []
+    ∷ calls sizeCalls (by 0 (grade (one 4 0) (one 5 0) 1)) (evenly (pos 4294967295) 0) []
+    ∷ calls sizeCalls (by 0 (grade (one 5 0) (one 4 0) 64)) (evenly (negsuc 67108863) 1) []
+    -- a measure of a higher label, for a subject that sees it and for one that does not; a missing one
+    ∷ calls sizeCalls (by 16 (grade (one 1 0) p7 2)) (evenly (negsuc 497) 1) []
+    ∷ calls sizeCalls (by 0 (grade (one 1 0) p7 2)) (ungraded 7) []
+    ∷ calls sizeCalls (by 0 (grade (one 1 0) (one 99 0) 2)) (ungraded 7) []
+    -- a group, a removed element and the root are no measures; 7 is looked at before, for both paths
+    ∷ calls sizeCalls (by 0 (grade (one 1 0) (one 6 0) 2)) (ungraded 12) []
+    ∷ calls sizeCalls (by 16 (grade (one 8 0) (one 1 0) 2)) (ungraded 12) []
+    ∷ calls sizeCalls (by 0 (grade [] (one 1 0) 2)) (ungraded 12) []
+    ∷ calls sizeCalls (by 0 (grade (one 6 0) (one 99 0) 2)) (ungraded 7) []
+    -- no sizes and 65; the sizes are looked at before 7 and after 4
+    ∷ calls sizeCalls (by 0 (grade (one 1 0) (one 2 0) 65)) (ungraded 11) []
+    ∷ calls sizeCalls (by 0 (grade (one 1 0) (one 99 0) 0)) (ungraded 11) []
+    ∷ calls sizeCalls (by 0 (grade (one 1 0) (one 1 40) 0)) (ungraded 4) []
     -- document 01's script
     ∷ script
     "0\tI\t10:0\tG\t-\n16\tI\t10:0/20:16\tM\t-150\n0\tD\t10:0\n0\tV\t/\n16\tV\t/\n"

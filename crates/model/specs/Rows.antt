@@ -1,4 +1,4 @@
--- The table of refusals: its rows, and the groups of them that calls share (document 01, "The four calls").
+-- The table of refusals: its rows, and the groups of them that calls share (document 01, "The four calls"; document 02).
 use mathlib.Core.Bool.{Bool, not, cond, _&&_, _||_}
 use mathlib.Core.Option.{Option, none, some}
 use mathlib.Core.List.{List, [], _∷_, _++_}
@@ -11,7 +11,8 @@ use Rattle.model.specs.Path.{Step, parent, endsIn, validPath, stepsOf}
 use Rattle.model.specs.Value.{Content, bringable}
 use Rattle.model.specs.Store.{storeSize}
 use Rattle.model.specs.Model.{Model, isHeld, ownSet, live}
-use Rattle.model.specs.View.{inView}
+use Rattle.model.specs.View.{visible, inView}
+use Rattle.model.specs.Grade.{isMeasure, measureAt}
 
 -- a row has a number and whether its cause applies
 pub data Row : Type 0 where
@@ -93,3 +94,19 @@ placeRows s m p =
 -- row 10: what is written fits into the output
 abbrev pub roomRows : ℕ → List ℕ → List Row
 roomRows room text = row 10 (ltb room (length text)) ∷ []
+
+-- row 11: there are 1 to 64 sizes
+abbrev pub sizesRows : ℕ → List Row
+sizesRows n = row 11 (not (leb 1 n && leb n 64)) ∷ []
+
+-- row 12: the path is a live measure's
+abbrev pub measureRows : ℕ → Model → List Step → List Row
+measureRows s m p = row 12 (not (isMeasure (measureAt (visible s m) p))) ∷ []
+
+-- rows 4 and 11 of an even grade: each of the two paths, then the sizes
+abbrev pub askedRows : (base top : List ℕ) → ℕ → List Row
+askedRows p q n = viewPathRows p ++ viewPathRows q ++ sizesRows n
+
+-- rows 7 and 12 of an even grade: each of the two paths is in view, then each is a live measure's
+abbrev pub measuredRows : ℕ → Model → (base top : List Step) → List Row
+measuredRows s m p q = seenRows s m p ++ seenRows s m q ++ measureRows s m p ++ measureRows s m q

@@ -11,7 +11,7 @@ use Rattle.model.specs.Path.{Step}
 use Rattle.model.specs.Value.{Content, isPrintable}
 use Rattle.model.specs.Store.{emptyStore}
 use Rattle.model.specs.Text.{ascii, decimal, signed, fields, line}
-use Rattle.model.specs.Call.{Call, Answer, Result, count}
+use Rattle.model.specs.Call.{Call, Answer, Result, count, graded}
 use Rattle.model.specs.Call
 use Rattle.model.specs.Run.{answerOf, storeAfter}
 
@@ -128,9 +128,10 @@ linesOf i = linesFrom [] i
 unfoldable pub unreadLine : List ℕ
 unreadLine = line (ascii "A" ∷ ascii "?" ∷ ascii "0" ∷ [])
 
--- a count in decimal
+-- a count in decimal; no line asks for a grade
 abbrev pub resultFields : Result → List (List ℕ)
 resultFields (count n) = decimal n ∷ []
+resultFields (graded z r) = []
 
 -- the listing, if any, then A, number, count
 unfoldable pub answerLines : Answer → List ℕ

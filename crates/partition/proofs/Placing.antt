@@ -173,7 +173,7 @@ module _ (p : List Step) where
 
 module _ (p : List Step) (e : Element) (es : List Element) where
   -- a path that comes after an element is not the element's
-  after-other : T (isBefore (e .path) p) → T (not (samePath p (e .path)))
+  pub after-other : T (isBefore (e .path) p) → T (not (samePath p (e .path)))
   after-other b = not-T (samePath p (e .path)) (λ t. precedes-irrefl (pathRank p) (rw (← (same-eq p (e .path) t)) at b))
 
   -- what stands behind an element that does not come before the path does not have the path

@@ -30,6 +30,15 @@ pub value-part : (b : List ℕ) {n : ℕ} → (n ≡ valueLength b) × (n < 256)
 unfolding readContent
 value-part b e = ap (λ (m : ℕ). between valueAt (valueAt + m) b) (e .0)
 
+-- a storable value is short
+pub storable-short : (b : List ℕ) → T (storable (readContent b)) → length b ≡ slotSize → valueLength b ≤ 16
+unfolding storable readContent
+storable-short b t size =
+    let k : length (between valueAt (valueAt + valueLength b) b) ≤ 16 = allowed-length _ _ t in
+    let d : length (drop valueAt b) ≡ 19 = length-drop valueAt b ∙ ap (λ (m : ℕ). m - valueAt) size in
+    let l : length (between valueAt (valueAt + valueLength b) b) ≡ min (valueAt + valueLength b - valueAt) (length (drop valueAt b)) = length-take _ (drop valueAt b) in
+    omega arith
+
 -- a valid path and content are short
 module _ (n : ℕ) (b : List ℕ) {r : Bool} (f : r ≡ (validPath (readPath b) && endsIn n (readPath b))) (yes : not r ≡ false)
     {q : Bool} (g : q ≡ storable (readContent b)) (good : not q ≡ false) where
@@ -41,13 +50,7 @@ module _ (n : ℕ) (b : List ℕ) {r : Bool} (f : r ≡ (validPath (readPath b) 
       rw (length-path b) at k
 
   pub short-value : length b ≡ slotSize → valueLength b ≤ 16
-  unfolding storable readContent
-  short-value size =
-      let t : T (storable (readContent b)) = rw (sym g ∙ not-false q good) tt in
-      let k : length (between valueAt (valueAt + valueLength b) b) ≤ 16 = allowed-length _ _ t in
-      let d : length (drop valueAt b) ≡ 19 = length-drop valueAt b ∙ ap (λ (m : ℕ). m - valueAt) size in
-      let l : length (between valueAt (valueAt + valueLength b) b) ≡ min (valueAt + valueLength b - valueAt) (length (drop valueAt b)) = length-take _ (drop valueAt b) in
-      omega arith
+  short-value size = storable-short b (rw (sym g ∙ not-false q good) tt) size
 
 -- ---- comparisons
 

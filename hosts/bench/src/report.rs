@@ -17,8 +17,10 @@ stores in turn and one output. The buffers are warm, an untimed turn comes befor
 subject's partition is laid back, a copy of 1,284 bytes that both times hold. The elements are spread evenly over the
 labels, a single one has the subject's; all of them are live. The view of a path, Insert, Update and Delete take one
 element near the middle of its partition, of the subject's label and with nothing of it below; an insert's elements count
-the one that it inserts. The well-formedness test is timed as a call that is refused right after it, for its path. The
-runner's time is a whole run of the program, from a file into a file. No text holds a character that XML escapes.
+the one that it inserts. An even grade has such an element for its top and the first of label 0 for its base, or the top
+again where there is no other; both are made measures. The well-formedness test is timed as a call that is refused right
+after it, for its path. The runner's time is a whole run of the program, from a file into a file. No text holds a character
+that XML escapes.
 ";
 /// The head of the table of growth.
 const GROWTH: &str = "As the store grows: a view of all by 31, its cost for each line (each visible element), and the
@@ -72,8 +74,8 @@ impl Report {
         let above: Vec<&Row> = self.rows().filter(|row| row.is_above()).collect();
         let grown = self.growth.iter().flat_map(|growth| [growth.view, growth.test]);
         let mut text = format!(
-            "The bar is 1.00 for View, as lines and as XML, and the well-formedness test and 1.20 for the others. Above it are {} of\n\
-             the {} rows of the first table and {} of the {} ratios of the second.{}\n",
+            "The bar is 1.00 for View, as lines and as XML, the even grade and the well-formedness test, and 1.20 for the others.\n\
+             Above it are {} of the {} rows of the first table and {} of the {} ratios of the second.{}\n",
             above.len(),
             self.rows().count(),
             grown.filter(|times| is_above(*times, HIGH_BAR)).count(),

@@ -7,13 +7,14 @@ use reference::STORE;
 use reference::partition::partition;
 use reference::path::Path as ElementPath;
 use reference::random::Random;
+use reference::value::{GROUP, MEASURE};
 use std::fs::File;
 use std::io;
 use std::path::Path;
 use std::process::Command;
 use std::time::Instant;
 
-/// The bar for the views and the well-formedness test.
+/// The bar for the views, the even grade and the well-formedness test.
 pub const HIGH_BAR: f64 = 1.0;
 /// The bar for every other row.
 const BAR: f64 = 1.2;
@@ -23,6 +24,8 @@ const SUBJECTS: [u8; 2] = [0, 31];
 const STORES: u64 = 16;
 /// An output that each measured listing fits.
 const SPACE: usize = 262_144;
+/// The measures of a grade and its number of sizes: a step of -150, and 5 are left.
+const GRADE: ([i32; 2], u32) = ([7200, 6155], 7);
 
 /// One row.
 pub struct Row {
@@ -41,7 +44,8 @@ pub struct Growth {
 
 /// A call without inputs but for its subject and its path.
 fn call(name: Name, subject: u8, path: Vec<u8>) -> Call {
-    Call { name, subject: subject.into(), path, kind: 2, value: b"SLEEVE".to_vec(), output: SPACE }
+    let (value, top) = (b"SLEEVE".to_vec(), Vec::new());
+    Call { name, subject: subject.into(), path, kind: 2, value, top, n: GRADE.1, output: SPACE }
 }
 
 /// A row that is still to be measured.
@@ -88,10 +92,11 @@ pub fn calls(seed: u64, elements: usize, rounds: usize) -> Vec<Row> {
 type MakeCase = fn(&[u8], u8) -> (Call, Vec<u8>);
 
 /// The kinds of cases: their names, bars, numbers and how they are made.
-const KINDS: [(&str, f64, u32, MakeCase); 7] = [
+const KINDS: [(&str, f64, u32, MakeCase); 8] = [
     ("View of all", HIGH_BAR, 0, |store, subject| (call(Name::View, subject, Vec::new()), store.to_vec())),
     ("View of a path", HIGH_BAR, 0, |store, subject| (call(Name::View, subject, leaf(store, subject)), store.to_vec())),
     ("View as XML of all", HIGH_BAR, 0, xml_case),
+    ("Even grade", HIGH_BAR, 0, grade_case),
     ("Insert", BAR, 0, insert_case),
     ("Update", BAR, 0, |store, subject| (call(Name::Update, subject, leaf(store, subject)), store.to_vec())),
     ("Delete", BAR, 0, |store, subject| (call(Name::Delete, subject, leaf(store, subject)), store.to_vec())),
@@ -101,6 +106,24 @@ const KINDS: [(&str, f64, u32, MakeCase); 7] = [
 /// A view of all as XML, with an output that each one fits.
 fn xml_case(store: &[u8], subject: u8) -> (Call, Vec<u8>) {
     (Call { output: XML_BYTES_MAX, ..call(Name::ViewXml, subject, Vec::new()) }, store.to_vec())
+}
+
+/// A grade from the first element of label 0, or the only one of the store, to one of the subject's: both are made
+/// measures before.
+fn grade_case(store: &[u8], subject: u8) -> (Call, Vec<u8>) {
+    let mut store = store.to_vec();
+    let top = leaf(&store, subject);
+    let base = partition(&store, 0).slots().next().map_or_else(|| top.clone(), |slot| slot.path().bytes());
+    for (path, number) in [&base, &top].into_iter().zip(GRADE.0) {
+        put_value(&mut store, path, MEASURE, &number.to_le_bytes());
+    }
+    (Call { top, ..call(Name::Grade, subject, base) }, store)
+}
+
+/// Gives an element another value.
+fn put_value(store: &mut [u8], path: &[u8], kind: u32, value: &[u8]) {
+    let label = path[path.len() - 1];
+    assert_eq!(reference::update(store, label.into(), path, kind, value).number, 0);
 }
 
 /// The insert of an element that the store holds: it is taken out before.
@@ -128,7 +151,7 @@ fn leaf(store: &[u8], label: u8) -> Vec<u8> {
 type Refused = (&'static str, usize, u32, fn(&[u8]) -> (Call, Vec<u8>));
 
 /// The refusals, by the highest label.
-const REFUSED: [Refused; 11] = [
+const REFUSED: [Refused; 14] = [
     ("Insert: store of another length", 256, 1, |store| (new(Name::Insert, 31), store[1..].to_vec())),
     ("Insert: subject over 31", 256, 2, |store| (Call { subject: 32, ..new(Name::Insert, 31) }, store.to_vec())),
     ("Insert: corruption of the last partition's last byte", 256, 3, corrupted_case),
@@ -137,10 +160,22 @@ const REFUSED: [Refused; 11] = [
     ("Delete: another label", 256, 6, |store| (new(Name::Delete, 30), store.to_vec())),
     ("Delete: not live", 256, 7, |store| (new(Name::Delete, 31), store.to_vec())),
     ("View: not in view", 256, 7, |store| (new(Name::View, 31), store.to_vec())),
+    ("Even grade: top not in view", 256, 7, |store| changed_grade(store, |call, _| call.top = vec![255, 255, 31])),
     ("Insert: live already", 256, 8, |store| (call(Name::Insert, 31, leaf(store, 31)), store.to_vec())),
     ("Insert: partition full", 1024, 9, |store| (new(Name::Insert, 31), store.to_vec())),
     ("View: output too short", 256, 10, |store| (Call { output: 100, ..call(Name::View, 31, vec![]) }, store.to_vec())),
+    ("Even grade: 65 sizes", 256, 11, |store| changed_grade(store, |call, _| call.n = 65)),
+    ("Even grade: top a group", 256, 12, |store| {
+        changed_grade(store, |call, store| put_value(store, &call.top, GROUP, &[]))
+    }),
 ];
+
+/// A grade by the highest label in which something is changed.
+fn changed_grade(store: &[u8], change: fn(&mut Call, &mut [u8])) -> (Call, Vec<u8>) {
+    let (mut call, mut store) = grade_case(store, 31);
+    change(&mut call, &mut store);
+    (call, store)
+}
 
 /// A call by the highest label on a path that is not in the store and ends in this label.
 fn new(name: Name, label: u8) -> Call {

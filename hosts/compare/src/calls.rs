@@ -1,16 +1,24 @@
 //! The calls and the table of refusals.
-use crate::label::is_label;
+use crate::label::{dominates, is_label};
 use crate::listing;
 use crate::partition::{self, SLOTS, STORE, dominated, partition};
 use crate::path::Path;
 use crate::value::Value;
 use crate::xml;
 
-/// What a call answers: 0 or the number of its refusal, and its count.
+/// What a call but a grade answers: 0 or the number of its refusal, and its count.
 #[derive(Clone, Copy, PartialEq, Eq, Debug)]
 pub struct Answer {
     pub number: u32,
     pub count: u64,
+}
+
+/// What a grade answers: 0 or the number of its refusal, the step and the remainder.
+#[derive(Clone, Copy, PartialEq, Eq, Debug)]
+pub struct Grade {
+    pub number: u32,
+    pub step: i64,
+    pub remainder: u32,
 }
 
 /// Why a call is refused, with its number.
@@ -26,7 +34,12 @@ pub enum Refusal {
     Live = 8,
     Full = 9,
     Output = 10,
+    Sizes = 11,
+    NoMeasure = 12,
 }
+
+/// The most sizes of a grade.
+const SIZES: u32 = 64;
 
 /// The answer of a call that was done or refused.
 fn answer(done: Result<usize, Refusal>) -> Answer {
@@ -59,6 +72,14 @@ pub fn update(store: &mut [u8], subject: u32, path: &[u8], kind: u32, value: &[u
 /// Takes an element, and what extends it, from the subject's partition.
 pub fn delete(store: &mut [u8], subject: u32, path: &[u8]) -> Answer {
     answer(try_delete(store, subject, path))
+}
+
+/// Divides what lies between two measures evenly into n sizes; the step is rounded down.
+pub fn grade(store: &[u8], subject: u32, base: &[u8], top: &[u8], n: u32) -> Grade {
+    match try_grade(store, subject, base, top, n) {
+        Ok((step, remainder)) => Grade { number: 0, step, remainder },
+        Err(refusal) => Grade { number: refusal as u32, step: 0, remainder: 0 },
+    }
 }
 
 /// The view, or why it is refused.
@@ -119,6 +140,21 @@ fn try_delete(store: &mut [u8], subject: u32, path: &[u8]) -> Result<usize, Refu
     Ok(taken)
 }
 
+/// The step and the remainder of a grade, or why it is refused.
+fn try_grade(store: &[u8], subject: u32, base: &[u8], top: &[u8], n: u32) -> Result<(i64, u32), Refusal> {
+    let subject = subject_of(store, subject)?;
+    let base = Path::read(base).ok_or(Refusal::Path)?;
+    let top = Path::read(top).ok_or(Refusal::Path)?;
+    if !(1..=SIZES).contains(&n) {
+        return Err(Refusal::Sizes);
+    }
+    let values = [value_in_view(store, subject, &base)?, value_in_view(store, subject, &top)?];
+    let [Some(Value::Measure(base)), Some(Value::Measure(top))] = values else { return Err(Refusal::NoMeasure) };
+    let between = i64::from(top) - i64::from(base);
+    let n = i64::from(n);
+    Ok((between.div_euclid(n), between.rem_euclid(n) as u32))
+}
+
 /// Rows 1 to 3: the subject's label, if the store has the right length and its dominated partitions are well formed.
 fn subject_of(store: &[u8], subject: u32) -> Result<u8, Refusal> {
     if store.len() != STORE {
@@ -144,6 +180,16 @@ fn own_path(subject: u8, path: &Path) -> Result<(), Refusal> {
 /// Whether the path is in the subject's view; the root always is.
 fn is_in_view(store: &[u8], subject: u8, path: &Path) -> bool {
     path.depth() == 0 || dominated(store, subject).any(|part| part.below(path).1.next().is_some())
+}
+
+/// Row 7 of a grade: the value at a path in the subject's view, if it is live.
+fn value_in_view<'a>(store: &'a [u8], subject: u8, path: &Path) -> Result<Option<Value<'a>>, Refusal> {
+    let dominated = path.label().filter(|label| dominates(subject, *label));
+    match dominated.and_then(|label| partition(store, label).held(path)) {
+        Some(slot) => Ok(slot.value()),
+        None if is_in_view(store, subject, path) => Ok(None),
+        None => Err(Refusal::Absent),
+    }
 }
 
 /// Row 7 of an update and a delete: where the element stands in the subject's partition.

@@ -153,6 +153,11 @@ impl<'a> Partition<'a> {
         self.counted().binary_search_by(|slot| Slot(slot).path().cmp(path))
     }
 
+    /// The slot of the path, if it stands here.
+    pub fn held(self, path: &Path) -> Option<Slot<'a>> {
+        self.find(path).ok().map(|at| Slot(&self.counted()[at]))
+    }
+
     /// The slots of the path and what extends it, and where they begin.
     pub fn below(self, path: &Path) -> (usize, impl Iterator<Item = Slot<'a>>) {
         let start = self.find(path).unwrap_or_else(|at| at);

@@ -1,11 +1,11 @@
-//! Document 01's test cuts and examples of XML and of updates, run on the Rust program, and its well-formedness test,
-//! listing, XML and updates against plain definitions.
+//! Document 01's test cuts and examples of XML, of updates and of grades, run on the Rust program, and its
+//! well-formedness test, listing, XML, updates and grades against plain definitions.
 use reference::label::{LABELS, dominates};
 use reference::partition::{PARTITION, partition};
 use reference::path::{Path, Step};
 use reference::random::Random;
 use reference::value::{GROUP, MEASURE, TEXT, Value};
-use reference::{STORE, delete, insert, script, update, view, view_xml};
+use reference::{STORE, delete, grade, insert, script, update, view, view_xml};
 use std::collections::BTreeMap;
 
 /// The bytes of a path given as names and labels.
@@ -353,6 +353,138 @@ fn xml_holds_what_the_document_says() {
         let expected = format!(r#"<dossier subject="{subject}">{elements}</dossier>"#);
         assert_eq!(xml(&store, subject.into(), &[], 426_016), (0, expected));
     }
+}
+
+/// A grade: the answer's number, step and remainder.
+fn graded(store: &[u8], subject: u32, base: &[(u16, u8)], top: &[(u16, u8)], n: u32) -> (u32, i64, u32) {
+    let answer = grade(store, subject, &path(base), &path(top), n);
+    (answer.number, answer.step, answer.remainder)
+}
+
+/// The store of the examples of grades: 6:0 is a group, 8:0 is removed, 10:0 is a text.
+fn with_grade_examples() -> Vec<u8> {
+    let mut store = vec![0; STORE];
+    let measures = [
+        (0, &[(1, 0)][..], 1000),
+        (0, &[(2, 0)], 1025),
+        (0, &[(3, 0)], 990),
+        (0, &[(4, 0)], i32::MIN),
+        (0, &[(5, 0)], i32::MAX),
+        (16, &[(7, 16)], 5),
+        (16, &[(8, 0), (9, 16)], 6),
+    ];
+    group(&mut store, 0, &[(6, 0)]);
+    group(&mut store, 0, &[(8, 0)]);
+    insert(&mut store, 0, &path(&[(10, 0)]), TEXT, b"SLEEVE");
+    for (subject, steps, number) in measures {
+        assert_eq!(insert(&mut store, subject, &path(steps), MEASURE, &i32::to_le_bytes(number)).number, 0);
+    }
+    delete(&mut store, 0, &path(&[(8, 0)]));
+    store
+}
+
+#[test]
+fn examples_of_grades() {
+    let store = with_grade_examples();
+    let examples = [
+        (0, &[(1, 0)][..], &[(2, 0)][..], 4, (0, 6, 1)),
+        (0, &[(1, 0)], &[(3, 0)], 3, (0, -4, 2)),
+        (0, &[(1, 0)], &[(1, 0)], 64, (0, 0, 0)),
+        (0, &[(4, 0)], &[(5, 0)], 1, (0, 4_294_967_295, 0)),
+        (0, &[(5, 0)], &[(4, 0)], 1, (0, -4_294_967_295, 0)),
+        (0, &[(5, 0)], &[(4, 0)], 64, (0, -67_108_864, 1)),
+        (0, &[(1, 0)], &[(2, 0)], 0, (11, 0, 0)),
+        (0, &[(1, 0)], &[(2, 0)], 65, (11, 0, 0)),
+        (0, &[(1, 0)], &[(2, 0)], 257, (11, 0, 0)),
+        (0, &[(1, 0)], &[(2, 0)], u32::MAX, (11, 0, 0)),
+        (0, &[(1, 0)], &[(99, 0)], 0, (11, 0, 0)),
+        (0, &[(1, 0)], &[(99, 0)], 2, (7, 0, 0)),
+        (0, &[(6, 0)], &[(99, 0)], 2, (7, 0, 0)),
+        (0, &[(1, 0)], &[(6, 0)], 2, (12, 0, 0)),
+        (0, &[], &[(1, 0)], 2, (12, 0, 0)),
+        (0, &[(1, 0)], &[(7, 16)], 2, (7, 0, 0)),
+        (16, &[(1, 0)], &[(7, 16)], 2, (0, -498, 1)),
+        (16, &[(8, 0)], &[(1, 0)], 2, (12, 0, 0)),
+        (16, &[(8, 0), (9, 16)], &[(1, 0)], 7, (0, 142, 0)),
+        (0, &[(1, 0)], &[(10, 0)], 2, (12, 0, 0)),
+        (0, &[], &[(99, 0)], 2, (7, 0, 0)),
+        (40, &[(1, 0)], &[(2, 0)], 4, (2, 0, 0)),
+        (0, &[(0, 0)], &[(1, 0)], 4, (4, 0, 0)),
+        (0, &[(1, 0)], &[(1, 40)], 0, (4, 0, 0)),
+    ];
+    for (subject, base, top, n, expected) in examples {
+        assert_eq!(graded(&store, subject, base, top, n), expected, "{subject} {base:?} {top:?} {n}");
+    }
+    assert_eq!(graded(&store[1..], 40, &[(0, 0)], &[], 0), (1, 0, 0));
+    let mut corrupted = store;
+    corrupted[16 * PARTITION + 1] = 1;
+    assert_eq!(graded(&corrupted, 16, &[(0, 0)], &[], 0), (3, 0, 0));
+    assert_eq!(graded(&corrupted, 15, &[(1, 0)], &[(2, 0)], 4), (0, 6, 1));
+}
+
+/// A store after many random calls, most of whose elements are measures.
+fn measured(random: &mut Random) -> Vec<u8> {
+    let mut store = grown(random);
+    for path in elements(&store).keys() {
+        let any = random.bits() as i32;
+        let number = random.pick(&[0, 1, -1, i32::MIN, i32::MAX, any, any % 1000]);
+        let label = path.label().expect("an element's path");
+        if random.percent(70) {
+            update(&mut store, label.into(), &path.bytes(), MEASURE, &number.to_le_bytes());
+        }
+    }
+    store
+}
+
+/// Each listed path, with its number if it is a live measure.
+fn listed_numbers(store: &[u8], subject: u8) -> BTreeMap<Path, Option<i32>> {
+    let number =
+        |path: &Path| match partition(store, path.label()?).slots().find(|slot| slot.path() == *path)?.value()? {
+            Value::Measure(number) => Some(number),
+            _ => None,
+        };
+    listed(store, subject).into_keys().map(|path| (path, number(&path))).collect()
+}
+
+/// Whether this is the answer of a grade by the document's words.
+fn is_grade(listed: &BTreeMap<Path, Option<i32>>, base: &Path, top: &Path, n: u32, answer: (u32, i64, u32)) -> bool {
+    let seen = |path: &Path| if path.depth() == 0 { Some(None) } else { listed.get(path).copied() };
+    match (seen(base), seen(top)) {
+        _ if !(1..=64).contains(&n) => answer == (11, 0, 0),
+        (None, _) | (_, None) => answer == (7, 0, 0),
+        (Some(Some(base)), Some(Some(top))) => {
+            let (number, step, remainder) = answer;
+            let rebuilt = i128::from(n) * i128::from(step) + i128::from(remainder);
+            number == 0 && remainder < n && rebuilt == i128::from(top) - i128::from(base)
+        }
+        _ => answer == (12, 0, 0),
+    }
+}
+
+#[test]
+fn grades_are_what_the_document_says() {
+    let mut random = Random::new(8);
+    let mut met = [0; 13];
+    for _ in 0..20 {
+        let store = measured(&mut random);
+        let subject = random.pick(&[0, 9, 16, 31]);
+        let numbers = listed_numbers(&store, subject);
+        let held: Vec<Path> = elements(&store).into_keys().collect();
+        for _ in 0..2000 {
+            let mut beginning = || {
+                let path = random.pick(&held);
+                let depth = if random.percent(80) { path.depth() } else { random.below(path.depth()) };
+                Path::new(&path.steps()[..depth])
+            };
+            let (base, top) = (beginning(), beginning());
+            let n = random.below(67) as u32;
+            let answer = grade(&store, subject.into(), &base.bytes(), &top.bytes(), n);
+            met[answer.number as usize] += 1;
+            let answer = (answer.number, answer.step, answer.remainder);
+            assert!(is_grade(&numbers, &base, &top, n, answer), "{subject} {base:?} {top:?} {n} {answer:?}");
+        }
+    }
+    assert!([0, 7, 11, 12].iter().all(|number| met[*number] > 100), "{met:?}");
 }
 
 #[test]

@@ -5,9 +5,9 @@ under a label of their own; what a subject sees and is told owes nothing to subj
 themselves are proved; this module only passes bytes and numbers on and reads the answers.
 
 The typed calls are methods of Store. Below them, dossier.raw has the calls on bytes of any length and on numbers of 32
-bits: no number is narrowed on its way, so that a subject of 287 is refused by 2 and a kind of 256 by 5. A number that does not
-fit 32 bits never reaches the library: it raises ValueError. What is no whole number, such as 7.5, 1.0 or "1", raises TypeError
-as a level, compartments, a label, a subject, a name, a kind or a measure.
+bits: no number is narrowed on its way, so that a subject of 287 is refused by 2, a kind of 256 by 5 and a grade in 257 sizes
+by 11. A number that does not fit 32 bits never reaches the library: it raises ValueError. What is no whole number, such as 7.5,
+1.0 or "1", raises TypeError as a level, compartments, a label, a subject, a name, a kind, a measure or a number of sizes.
 
 A subject of label 0 inserts a style and a subject of label 16 a measure under it; 0 deletes the style, and 16 still sees it,
 marked as removed, above his measure:
@@ -36,6 +36,14 @@ The measure as XML:
     >>> store.view_xml(house_subject, sleeve)
     '<dossier subject="16"><e20 label="16" preserve="PRESENT" kind="M">-150</e20></dossier>'
 
+The even grade from this sleeve to a wider one in three sizes, 1000 being 3 × 333 + 1:
+
+    >>> wider = style + [Step(21, house_subject)]
+    >>> store.insert(house_subject, wider, Measure(850))
+    0
+    >>> store.grade(house_subject, sleeve, wider, 3)
+    Grade(step=333, remainder=1)
+
 A refusal has a number and changes nothing:
 
     >>> try:
@@ -44,7 +52,7 @@ A refusal has a number and changes nothing:
     ...     print(refused.answer.number, refused.refusal is Refusal.ABSENT)
     7 True
 """
-from .answer import Answer, Refusal, Refused, UnexpectedAnswer
+from .answer import Answer, Grade, GradeAnswer, Refusal, Refused, UnexpectedAnswer
 from .label import Compartment, Label, Level
 from .listing import Line, Unreadable, View
 from .path import Step
@@ -55,6 +63,8 @@ from .value import Group, Kind, Measure, Text
 __all__ = [
     "Answer",
     "Compartment",
+    "Grade",
+    "GradeAnswer",
     "Group",
     "Kind",
     "LISTING_BYTES_MAX",

@@ -5,18 +5,44 @@ from typing import NamedTuple
 
 
 class Answer(NamedTuple):
-    """What a call answers: 0 or the number of its refusal, and its count."""
+    """What a call but a grade answers: 0 or the number of its refusal, and its count."""
 
     number: int
     count: int
 
     def outcome(self):
         """The count of a call that is done; else Refused or UnexpectedAnswer is raised."""
-        if self.number == 0:
-            return self.count
-        if self.count == 0 and self.number in list(Refusal):
-            raise Refused(self)
-        raise UnexpectedAnswer(self)
+        _raise_unless_done(self)
+        return self.count
+
+
+class Grade(NamedTuple):
+    """An even grade in n sizes: top minus base is n × step + remainder, the remainder 0 to n - 1."""
+
+    step: int
+    remainder: int
+
+
+class GradeAnswer(NamedTuple):
+    """What a grade answers: 0 or the number of its refusal, the step and the remainder."""
+
+    number: int
+    step: int
+    remainder: int
+
+    def outcome(self):
+        """The grade of a call that is done; else Refused or UnexpectedAnswer is raised."""
+        _raise_unless_done(self)
+        return Grade(self.step, self.remainder)
+
+
+def _raise_unless_done(answer):
+    """Raises Refused for the number of a refusal with zeros behind it, and UnexpectedAnswer for what else is not done."""
+    if answer.number == 0:
+        return
+    if answer.number in list(Refusal) and not any(answer[1:]):
+        raise Refused(answer)
+    raise UnexpectedAnswer(answer)
 
 
 class ExportedAnswer(ctypes.Structure):
@@ -25,19 +51,28 @@ class ExportedAnswer(ctypes.Structure):
     _fields_ = [("number", ctypes.c_uint32), ("count", ctypes.c_uint64)]
 
 
+class ExportedGrade(ctypes.Structure):
+    """The answer of a grade as the library returns it."""
+
+    _fields_ = [("number", ctypes.c_uint32), ("step", ctypes.c_int64), ("remainder", ctypes.c_uint32)]
+
+
 class Refusal(IntEnum):
-    """Why a call is refused: the first cause, in this order, that applies. A refused call leaves the store and the output."""
+    """Why a call is refused: the first cause that applies, in this order but for 11, which a grade tests right after 4. A refused
+    call leaves the store and the output."""
 
     STORE_LENGTH = 1  # the store is not 41,088 bytes long
     SUBJECT = 2  # the subject is no label
     NOT_WELL_FORMED = 3  # a partition that the subject dominates is not well formed
-    PATH = 4  # the path is none, or it is the root's and the call is not a view
+    PATH = 4  # the path is none, or it is the root's and the call is neither a view nor a grade; of a grade, either path
     VALUE = 5  # the kind, or the value's length or bytes, are not allowed
     OTHER_LABEL = 6  # the path's last label is not the subject's
-    ABSENT = 7  # the path of a view or the parent of an insert is not in view, or the element is not live
+    ABSENT = 7  # the path of a view, the parent of an insert or either path of a grade is not in view, or the element is not live
     LIVE = 8  # the element of an insert is live already
     FULL = 9  # the subject's partition holds 32 elements
     OUTPUT_SHORT = 10  # the output is shorter than the listing or the XML
+    SIZES = 11  # the number of sizes of a grade is not 1 to 64
+    NO_MEASURE = 12  # both paths of a grade are in view, and either is no live measure's
 
 
 class Refused(Exception):
@@ -62,5 +97,5 @@ class UnexpectedAnswer(Exception):
         self.answer = answer
 
     def __str__(self):
-        """The answer's two numbers."""
-        return f"unexpected answer: number {self.answer.number}, count {self.answer.count}"
+        """The answer's numbers, each with its name."""
+        return "unexpected answer: " + ", ".join(f"{name} {number}" for name, number in self.answer._asdict().items())

@@ -1,13 +1,14 @@
 """The calls on lent bytes, of any length, and on numbers of 32 bits, which reach the library as they are.
 
 A store or an output that is written is any writable buffer (a bytearray, an mmap, a memoryview of one); a path, a value and the
-store of a view may be bytes too. `include/dossier.h` says what the calls do. What they ask of a host is seen to here: a buffer
-that is written and overlaps another one of the call raises ValueError, and a call keeps other Python threads waiting.
+store of a view or a grade may be bytes too. `include/dossier.h` says what the calls do. What they ask of a host is seen to
+here: a buffer that is written and overlaps another one of the call raises ValueError, and a call keeps other Python threads
+waiting.
 """
 import ctypes
 import operator
 
-from .answer import Answer, ExportedAnswer
+from .answer import Answer, ExportedAnswer, ExportedGrade, GradeAnswer
 from .archive import shared_object
 
 # How many bytes a store has.
@@ -26,23 +27,24 @@ XML_BYTES_MAX = 426016
 _BUFFER = [ctypes.c_void_p, ctypes.c_size_t]
 _WORD = [ctypes.c_uint32]
 
-# The exported functions and what each takes.
+# The exported functions, what each takes and what it returns.
 _DECLARED = {
-    "dossier_view": _BUFFER + _WORD + _BUFFER + _BUFFER,
-    "dossier_view_xml": _BUFFER + _WORD + _BUFFER + _BUFFER,
-    "dossier_insert": _BUFFER + _WORD + _BUFFER + _WORD + _BUFFER,
-    "dossier_update": _BUFFER + _WORD + _BUFFER + _WORD + _BUFFER,
-    "dossier_delete": _BUFFER + _WORD + _BUFFER,
+    "dossier_view": (_BUFFER + _WORD + _BUFFER + _BUFFER, ExportedAnswer),
+    "dossier_view_xml": (_BUFFER + _WORD + _BUFFER + _BUFFER, ExportedAnswer),
+    "dossier_insert": (_BUFFER + _WORD + _BUFFER + _WORD + _BUFFER, ExportedAnswer),
+    "dossier_update": (_BUFFER + _WORD + _BUFFER + _WORD + _BUFFER, ExportedAnswer),
+    "dossier_delete": (_BUFFER + _WORD + _BUFFER, ExportedAnswer),
+    "dossier_grade": (_BUFFER + _WORD + _BUFFER + _BUFFER + _WORD, ExportedGrade),
 }
 
 
 def _load():
     """The library with its functions declared. A PyDLL's calls keep other Python threads from writing what is lent."""
     library = ctypes.PyDLL(str(shared_object()))
-    for name, arguments in _DECLARED.items():
+    for name, (arguments, returned) in _DECLARED.items():
         function = getattr(library, name)
         function.argtypes = arguments
-        function.restype = ExportedAnswer
+        function.restype = returned
     return library
 
 
@@ -118,6 +120,14 @@ def delete(store, subject, path):
     store, path = _written(store), _read(path)
     _apart(store, path)
     return _answer(_library.dossier_delete(*_lend(store), _word(subject), *_lend(path)))
+
+
+def grade(store, subject, base, top, n):
+    """The even grade between the measures at two paths in n sizes: top minus base is n × step + remainder, the remainder 0 to
+    n - 1."""
+    store, base, top = _read(store), _read(base), _read(top)
+    exported = _library.dossier_grade(*_lend(store), _word(subject), *_lend(base), *_lend(top), _word(n))
+    return GradeAnswer(exported.number, exported.step, exported.remainder)
 
 
 def _look(function, store, subject, path, output):

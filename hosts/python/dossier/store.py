@@ -40,3 +40,8 @@ class Store:
     def delete(self, subject, path):
         """Deletes the element and every live element below it of the same label. The count: how many elements were taken."""
         return raw.delete(self.buffer, subject.number, path_bytes(path)).outcome()
+
+    def grade(self, subject, base, top, n):
+        """The even grade between two live measures that the subject sees, in n sizes, 1 to 64. The step is rounded down, also
+        where the top is smaller: from 1000 to 990 in 3 sizes it is -4, and 2 are left."""
+        return raw.grade(self.buffer, subject.number, path_bytes(base), path_bytes(top), n).outcome()

@@ -2,7 +2,7 @@
 
 use std::fmt;
 
-/// What a call answers: 0 or the number of its refusal, and its count.
+/// What a call but a grade answers: 0 or the number of its refusal, and its count.
 #[repr(C)]
 #[derive(Clone, Copy, Debug, PartialEq, Eq, Hash)]
 #[must_use]
@@ -24,7 +24,43 @@ impl Answer {
     }
 }
 
-/// Why a call is refused: the first cause, in this order, that applies. A refused call leaves the store and the output.
+/// What a grade answers: 0 or the number of its refusal, the step and the remainder.
+#[repr(C)]
+#[derive(Clone, Copy, Debug, PartialEq, Eq, Hash)]
+#[must_use]
+pub struct GradeAnswer {
+    /// 0 if the call is done, else the number of the refusal.
+    pub number: u32,
+    /// The step of a grade that is done; else 0.
+    pub step: i64,
+    /// The remainder of a grade that is done; else 0.
+    pub remainder: u32,
+}
+
+impl GradeAnswer {
+    /// The grade of a call that is done, or why it is not.
+    pub fn outcome(self) -> Result<Grade, Error> {
+        match self {
+            GradeAnswer { number: 0, step, remainder } => Ok(Grade { step, remainder }),
+            GradeAnswer { number, step: 0, remainder: 0 } => {
+                Err(Refusal::from_number(number).map_or(Error::UnexpectedGrade(self), Error::Refused))
+            }
+            _ => Err(Error::UnexpectedGrade(self)),
+        }
+    }
+}
+
+/// An even grade in n sizes: top minus base is n × step + remainder.
+#[derive(Clone, Copy, Debug, PartialEq, Eq, Hash)]
+pub struct Grade {
+    /// The step from one size to the next, in hundredths of a millimetre, rounded down.
+    pub step: i64,
+    /// What is left over, in hundredths of a millimetre: 0 to n - 1.
+    pub remainder: u32,
+}
+
+/// Why a call is refused: the first cause that applies, in this order but for 11, which a grade tests right after 4. A refused
+/// call leaves the store and the output.
 #[derive(Clone, Copy, Debug, PartialEq, Eq, PartialOrd, Ord, Hash)]
 pub enum Refusal {
     /// 1: the store is not 41,088 bytes long.
@@ -33,13 +69,14 @@ pub enum Refusal {
     Subject = 2,
     /// 3: a partition that the subject dominates is not well formed.
     NotWellFormed = 3,
-    /// 4: the path is none, or it is the root's and the call is not a view.
+    /// 4: the path is none, or it is the root's and the call is neither a view nor a grade; of a grade, either path.
     Path = 4,
     /// 5: the kind, or the value's length or bytes, are not allowed.
     Value = 5,
     /// 6: the path's last label is not the subject's.
     OtherLabel = 6,
-    /// 7: the path of a view or the parent of an insert is not in view, or the element of an update or a delete is not live.
+    /// 7: the path of a view, the parent of an insert or either path of a grade is not in view, or the element of an update or a
+    /// delete is not live.
     Absent = 7,
     /// 8: the element of an insert is live already.
     Live = 8,
@@ -47,11 +84,16 @@ pub enum Refusal {
     Full = 9,
     /// 10: the output is shorter than the listing or the XML.
     OutputShort = 10,
+    /// 11: the number of sizes of a grade is not 1 to 64.
+    Sizes = 11,
+    /// 12: both paths of a grade are in view, and either is no live measure's: a group's, a text's, a removed element's or the
+    /// root's.
+    NoMeasure = 12,
 }
 
 impl Refusal {
     /// All refusals, in the order of their numbers.
-    pub const ALL: [Refusal; 10] = [
+    pub const ALL: [Refusal; 12] = [
         Refusal::StoreLength,
         Refusal::Subject,
         Refusal::NotWellFormed,
@@ -62,6 +104,8 @@ impl Refusal {
         Refusal::Live,
         Refusal::Full,
         Refusal::OutputShort,
+        Refusal::Sizes,
+        Refusal::NoMeasure,
     ];
 
     /// The number that the call answers.
@@ -87,6 +131,8 @@ impl Refusal {
             Refusal::Live => "the element is live already",
             Refusal::Full => "the subject's partition is full",
             Refusal::OutputShort => "the output is shorter than the listing or the XML",
+            Refusal::Sizes => "the number of sizes is not 1 to 64",
+            Refusal::NoMeasure => "a path of the grade is no live measure's",
         }
     }
 }
@@ -100,21 +146,23 @@ impl fmt::Display for Refusal {
 /// Why a typed call gives no result.
 #[derive(Clone, Copy, Debug, PartialEq, Eq, Hash)]
 pub enum Error {
-    /// The call was refused: its answer is the refusal's number, and count 0.
+    /// The call was refused: its answer is the refusal's number, and 0 for all else.
     Refused(Refusal),
     /// The answer is not one of those that this package knows: the archive is of another version.
     Unexpected(Answer),
+    /// The answer of a grade is not one of those that this package knows: the archive is of another version.
+    UnexpectedGrade(GradeAnswer),
     /// A line of a listing does not read as one, or XML is no text: the archive is of another version.
     Unreadable,
 }
 
 impl Error {
-    /// What the call answered, number and count; nothing for what does not read.
+    /// What the call answered, number and count; nothing for an unexpected grade, which has no count, and what does not read.
     pub fn answer(self) -> Option<Answer> {
         match self {
             Error::Refused(refusal) => Some(Answer { number: refusal.number(), count: 0 }),
             Error::Unexpected(answer) => Some(answer),
-            Error::Unreadable => None,
+            Error::UnexpectedGrade(_) | Error::Unreadable => None,
         }
     }
 }
@@ -123,7 +171,10 @@ impl fmt::Display for Error {
     fn fmt(&self, out: &mut fmt::Formatter<'_>) -> fmt::Result {
         match self {
             Error::Refused(refusal) => refusal.fmt(out),
-            Error::Unexpected(answer) => write!(out, "unexpected answer: number {}, count {}", answer.number, answer.count),
+            Error::Unexpected(Answer { number, count }) => write!(out, "unexpected answer: number {number}, count {count}"),
+            Error::UnexpectedGrade(GradeAnswer { number, step, remainder }) => {
+                write!(out, "unexpected answer: number {number}, step {step}, remainder {remainder}")
+            }
             Error::Unreadable => write!(out, "a line of the listing, or the XML, does not read"),
         }
     }
@@ -148,7 +199,7 @@ mod tests {
     #[test]
     fn an_unexpected_answer_is_kept_whole() {
         for answer in
-            [Answer { number: 11, count: 0 }, Answer { number: 7, count: 1 }, Answer { number: u32::MAX, count: u64::MAX }]
+            [Answer { number: 13, count: 0 }, Answer { number: 7, count: 1 }, Answer { number: u32::MAX, count: u64::MAX }]
         {
             assert_eq!(answer.outcome(), Err(Error::Unexpected(answer)));
             assert_eq!(Error::Unexpected(answer).answer(), Some(answer));
@@ -156,7 +207,26 @@ mod tests {
     }
 
     #[test]
+    fn a_grade_has_one_outcome() {
+        let answer = |number, step, remainder| GradeAnswer { number, step, remainder };
+        assert_eq!(answer(0, -4, 2).outcome(), Ok(Grade { step: -4, remainder: 2 }));
+        assert_eq!(answer(0, 0, 0).outcome(), Ok(Grade { step: 0, remainder: 0 }));
+        for (number, refusal) in (1..).zip(Refusal::ALL) {
+            assert_eq!(answer(number, 0, 0).outcome(), Err(Error::Refused(refusal)));
+        }
+        for answer in
+            [answer(13, 0, 0), answer(7, 1, 0), answer(7, -1, 0), answer(12, 0, 1), answer(u32::MAX, i64::MIN, u32::MAX)]
+        {
+            assert_eq!(answer.outcome(), Err(Error::UnexpectedGrade(answer)));
+            assert_eq!(Error::UnexpectedGrade(answer).answer(), None);
+        }
+    }
+
+    #[test]
     fn a_refusal_says_its_number() {
         assert_eq!(Error::Refused(Refusal::Subject).to_string(), "refused by 2: the subject is no label");
+        assert_eq!(Error::Refused(Refusal::NoMeasure).to_string(), "refused by 12: a path of the grade is no live measure's");
+        let unexpected = Error::UnexpectedGrade(GradeAnswer { number: 7, step: -1, remainder: 2 });
+        assert_eq!(unexpected.to_string(), "unexpected answer: number 7, step -1, remainder 2");
     }
 }

@@ -5,7 +5,8 @@
 //! dominate. The calls themselves are proved; this package only passes bytes and numbers on and reads the answers.
 //!
 //! The typed calls are methods of [`Store`]. Below them, [`raw`] has the calls on bytes of any length and on numbers of 32
-//! bits: no number is narrowed on its way, so that a subject of 287 is refused by 2 and a kind of 256 by 5.
+//! bits: no number is narrowed on its way, so that a subject of 287 is refused by 2, a kind of 256 by 5 and a grade in 257 sizes
+//! by 11.
 //!
 //! The borrow checker keeps what the calls ask of a host: a buffer that is written does not overlap another one, and nobody else
 //! writes a lent buffer until the call returns.
@@ -16,7 +17,7 @@
 //! marked as removed, above his measure.
 //!
 //! ```
-//! use dossier::{Error, Label, Level, Line, Mark, Path, Refusal, Store, Value};
+//! use dossier::{Error, Grade, Label, Level, Line, Mark, Path, Refusal, Store, Value};
 //!
 //! # fn main() -> Result<(), Error> {
 //! let open = Label::new(Level::Open, &[]);
@@ -39,9 +40,14 @@
 //! // The same view as XML.
 //! let mut output = [0; 135];
 //! let xml = store.view_xml(house, &Path::root(), &mut output)?;
-//! let sleeve = r#"<e20 label="16" preserve="PRESENT" kind="M">-150</e20>"#;
-//! let style_with_sleeve = format!(r#"<e10 label="0" preserve="REMOVED" kind="-">{sleeve}</e10>"#);
+//! let element = r#"<e20 label="16" preserve="PRESENT" kind="M">-150</e20>"#;
+//! let style_with_sleeve = format!(r#"<e10 label="0" preserve="REMOVED" kind="-">{element}</e10>"#);
 //! assert_eq!(xml, format!(r#"<dossier subject="16">{style_with_sleeve}</dossier>"#));
+//!
+//! // The even grade from this sleeve to a wider one in three sizes: 1000 is 3 × 333 + 1.
+//! let wider = style.child(21, house);
+//! store.insert(house, &wider, Value::Measure(850))?;
+//! assert_eq!(store.grade(house, &sleeve, &wider, 3)?, Grade { step: 333, remainder: 1 });
 //!
 //! // A refusal has a number and changes nothing.
 //! let refused = store.delete(open, &style);
@@ -63,7 +69,7 @@ pub mod raw;
 mod store;
 mod value;
 
-pub use answer::{Answer, Error, Refusal};
+pub use answer::{Answer, Error, Grade, GradeAnswer, Refusal};
 pub use label::{Compartment, Label, Level};
 pub use listing::{Line, Lines, Mark, View};
 pub use path::Path;

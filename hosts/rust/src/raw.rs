@@ -2,10 +2,10 @@
 //!
 //! Each is safe for every input: the library refuses what it does not allow. `include/dossier.h` says what the calls do.
 
-use crate::answer::Answer;
+use crate::answer::{Answer, GradeAnswer};
 
 mod exported {
-    use crate::answer::Answer;
+    use crate::answer::{Answer, GradeAnswer};
 
     extern "C" {
         pub fn dossier_view(
@@ -47,6 +47,16 @@ mod exported {
             value_length: usize,
         ) -> Answer;
         pub fn dossier_delete(store: *mut u8, store_length: usize, subject: u32, path: *const u8, path_length: usize) -> Answer;
+        pub fn dossier_grade(
+            store: *const u8,
+            store_length: usize,
+            subject: u32,
+            base: *const u8,
+            base_length: usize,
+            top: *const u8,
+            top_length: usize,
+            n: u32,
+        ) -> GradeAnswer;
     }
 }
 
@@ -114,4 +124,12 @@ pub fn update(store: &mut [u8], subject: u32, path: &[u8], kind: u32, value: &[u
 pub fn delete(store: &mut [u8], subject: u32, path: &[u8]) -> Answer {
     // SAFETY: each pointer reaches as many bytes as its length says; the store overlaps nothing, being a `&mut`.
     unsafe { exported::dossier_delete(store.as_mut_ptr(), store.len(), subject, path.as_ptr(), path.len()) }
+}
+
+/// The even grade between the measures at two paths in n sizes: top minus base is n × step + remainder, the remainder 0 to n - 1.
+pub fn grade(store: &[u8], subject: u32, base: &[u8], top: &[u8], n: u32) -> GradeAnswer {
+    // SAFETY: each pointer reaches as many bytes as its length says; nothing is written.
+    unsafe {
+        exported::dossier_grade(store.as_ptr(), store.len(), subject, base.as_ptr(), base.len(), top.as_ptr(), top.len(), n)
+    }
 }

@@ -2,7 +2,7 @@
 
 use std::str;
 
-use crate::answer::Error;
+use crate::answer::{Error, Grade};
 use crate::label::Label;
 use crate::listing::View;
 use crate::path::Path;
@@ -102,5 +102,11 @@ impl Store<'_> {
     /// Deletes the element and every live element below it of the same label. The count: how many elements were taken.
     pub fn delete(&mut self, subject: Label, path: &Path) -> Result<u64, Error> {
         raw::delete(self.as_mut_bytes(), subject.number(), path.as_bytes()).outcome()
+    }
+
+    /// The even grade between two live measures that the subject sees, in n sizes, 1 to 64. The step is rounded down, also where
+    /// the top is smaller: from 1000 to 990 in 3 sizes it is -4, and 2 are left.
+    pub fn grade(&self, subject: Label, base: &Path, top: &Path, n: u32) -> Result<Grade, Error> {
+        raw::grade(self.as_bytes(), subject.number(), base.as_bytes(), top.as_bytes(), n).outcome()
     }
 }

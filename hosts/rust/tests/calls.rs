@@ -1,9 +1,9 @@
-//! The calls through the package: document 01's example, every refusal, what is left untouched, what an update keeps, and XML
-//! read back.
+//! The calls through the package: document 01's example, every refusal, what is left untouched, what an update keeps, XML read
+//! back, and grades.
 
 use dossier::{
-    raw, Answer, Error, Label, Line, Mark, Path, Refusal, Store, Value, LISTING_BYTES_MAX, PARTITION_BYTES, STORE_BYTES,
-    XML_BYTES_MAX,
+    raw, Answer, Error, Grade, GradeAnswer, Label, Line, Mark, Path, Refusal, Store, Value, LISTING_BYTES_MAX, PARTITION_BYTES,
+    STORE_BYTES, XML_BYTES_MAX,
 };
 
 /// What every output holds before a call.
@@ -52,21 +52,34 @@ fn example() -> Store<'static> {
 enum Call<'a> {
     View(&'a [u8], usize),
     ViewXml(&'a [u8], usize),
+    Grade(&'a [u8], &'a [u8], u32),
     Insert(&'a [u8], u32, &'a [u8]),
     Update(&'a [u8], u32, &'a [u8]),
     Delete(&'a [u8]),
 }
 
-/// Each call of one path, the views first, with nothing else to be refused.
-fn each_call(path: &[u8]) -> [Call<'_>; 5] {
-    [Call::View(path, 64), Call::ViewXml(path, 64), Call::Insert(path, 0, &[]), Call::Update(path, 0, &[]), Call::Delete(path)]
+/// Each call of one path, the three that only read the store first, with nothing else to be refused.
+fn each_call(path: &[u8]) -> [Call<'_>; 6] {
+    [
+        Call::View(path, 64),
+        Call::ViewXml(path, 64),
+        Call::Grade(path, path, 1),
+        Call::Insert(path, 0, &[]),
+        Call::Update(path, 0, &[]),
+        Call::Delete(path),
+    ]
 }
 
-/// Makes a call on lent bytes.
+/// Makes a call on lent bytes. The answer of a grade that is refused has 0 twice behind its number, and so count 0 here.
 fn perform(store: &mut [u8], subject: u32, call: Call, output: &mut [u8]) -> Answer {
     match call {
         Call::View(path, room) => raw::view(store, subject, path, &mut output[..room]),
         Call::ViewXml(path, room) => raw::view_xml(store, subject, path, &mut output[..room]),
+        Call::Grade(base, top, n) => {
+            let GradeAnswer { number, step, remainder } = raw::grade(store, subject, base, top, n);
+            assert_eq!((step, remainder), (0, 0), "{subject} {call:?}");
+            Answer { number, count: 0 }
+        }
         Call::Insert(path, kind, value) => raw::insert(store, subject, path, kind, value),
         Call::Update(path, kind, value) => raw::update(store, subject, path, kind, value),
         Call::Delete(path) => raw::delete(store, subject, path),
@@ -199,6 +212,7 @@ fn refusal_1_store_of_another_length() {
         let mut store = Store::from(&mut bytes[..]);
         assert_eq!(store.view(label(0), &Path::root(), &mut [0; 64]), refused(Refusal::StoreLength));
         assert_eq!(store.view_xml(label(0), &Path::root(), &mut [0; 64]), refused(Refusal::StoreLength));
+        assert_eq!(store.grade(label(0), &path(&[(10, 0)]), &Path::root(), 0), refused(Refusal::StoreLength));
         assert_eq!(store.insert(label(0), &path(&[(10, 0)]), Value::Group), refused(Refusal::StoreLength));
         assert_eq!(store.update(label(0), &path(&[(10, 0)]), Value::Group), refused(Refusal::StoreLength));
         assert_eq!(store.delete(label(0), &path(&[(10, 0)])), refused(Refusal::StoreLength));
@@ -228,6 +242,8 @@ fn refusal_3_partition_not_well_formed() {
     assert!(store.view_xml(label(15), &Path::root(), &mut [0; 64]).is_ok());
     assert_eq!(store.view(label(16), &Path::root(), &mut [0; 64]), refused(Refusal::NotWellFormed));
     assert_eq!(store.view_xml(label(16), &Path::root(), &mut [0; 64]), refused(Refusal::NotWellFormed));
+    assert_eq!(store.grade(label(16), &Path::root(), &Path::root(), 1), refused(Refusal::NotWellFormed));
+    assert_eq!(store.grade(label(15), &Path::root(), &Path::root(), 1), refused(Refusal::NoMeasure));
 }
 
 #[test]
@@ -238,6 +254,8 @@ fn refusal_4_what_is_no_path() {
         for call in each_call(no_path) {
             assert_refused(store.as_mut_bytes(), 9, call, 4);
         }
+        assert_refused(store.as_mut_bytes(), 9, Call::Grade(no_path, P10, 0), 4);
+        assert_refused(store.as_mut_bytes(), 9, Call::Grade(P10, no_path, 0), 4);
     }
     assert_refused(store.as_mut_bytes(), 0, Call::Delete(&[]), 4);
     assert_eq!(store.insert(label(0), &Path::root(), Value::Group), refused(Refusal::Path));
@@ -266,7 +284,7 @@ fn refusals_6_7_and_8_of_the_place() {
     }
     assert_eq!(store.insert(label(0), &path(&[(10, 0)]), Value::Group), Ok(0));
     assert_eq!(store.insert(label(16), &path(&[(10, 16)]), Value::Group), Ok(0));
-    for call in each_call(P10).into_iter().skip(2) {
+    for call in each_call(P10).into_iter().skip(3) {
         assert_refused(store.as_mut_bytes(), 16, call, 6);
     }
     assert_refused(store.as_mut_bytes(), 0, Call::View(P10_16, 64), 7);
@@ -447,4 +465,100 @@ fn xml_and_listing_have_the_same_elements() {
     assert_eq!(assert_same_elements(&store, 24, &[(65535, 0), (65534, 0), (3, 8), (4, 8)]), 2);
     assert_eq!(assert_same_elements(&store, 31, &[(7, 31)]), 1);
     assert_eq!(assert_same_elements(&Store::empty(), 31, &[]), 0);
+}
+
+/// The store of the worked examples of grades: seven measures, the group 6:0, the removed 8:0 and the text 10:0.
+fn measured() -> Store<'static> {
+    let mut store = Store::empty();
+    for (subject, steps, value) in [
+        (0, &[(1, 0)][..], Value::Measure(1000)),
+        (0, &[(2, 0)], Value::Measure(1025)),
+        (0, &[(3, 0)], Value::Measure(990)),
+        (0, &[(4, 0)], Value::Measure(i32::MIN)),
+        (0, &[(5, 0)], Value::Measure(i32::MAX)),
+        (0, &[(6, 0)], Value::Group),
+        (16, &[(7, 16)], Value::Measure(5)),
+        (0, &[(8, 0)], Value::Group),
+        (16, &[(8, 0), (9, 16)], Value::Measure(6)),
+        (0, &[(10, 0)], Value::Text("SLEEVE")),
+    ] {
+        assert_eq!(store.insert(label(subject), &path(steps), value), Ok(0));
+    }
+    assert_eq!(store.delete(label(0), &path(&[(8, 0)])), Ok(1));
+    store
+}
+
+#[test]
+fn grades_of_the_worked_examples() {
+    let store = measured();
+    let before = store.as_bytes().to_vec();
+    for (subject, base, top, n, step, remainder) in [
+        (0, &[(1, 0)][..], &[(2, 0)][..], 4, 6, 1),
+        (0, &[(1, 0)], &[(3, 0)], 3, -4, 2),
+        (0, &[(1, 0)], &[(1, 0)], 64, 0, 0),
+        (0, &[(4, 0)], &[(5, 0)], 1, 4_294_967_295, 0),
+        (0, &[(5, 0)], &[(4, 0)], 1, -4_294_967_295, 0),
+        (0, &[(5, 0)], &[(4, 0)], 64, -67_108_864, 1),
+        (16, &[(1, 0)], &[(7, 16)], 2, -498, 1),
+        (16, &[(8, 0), (9, 16)], &[(1, 0)], 7, 142, 0),
+    ] {
+        assert_eq!(store.grade(label(subject), &path(base), &path(top), n), Ok(Grade { step, remainder }));
+        let answer = raw::grade(store.as_bytes(), subject, path(base).as_bytes(), path(top).as_bytes(), n);
+        assert_eq!(answer, GradeAnswer { number: 0, step, remainder });
+    }
+    assert!(store.as_bytes() == before);
+}
+
+#[test]
+fn refusals_7_and_12_of_a_grade() {
+    let mut store = measured();
+    let (absent, no_measure) = (Refusal::Absent, Refusal::NoMeasure);
+    for (subject, base, top, refusal) in [
+        (0, &[(1, 0)][..], &[(99, 0)][..], absent),
+        (0, &[(6, 0)], &[(99, 0)], absent),
+        (0, &[], &[(99, 0)], absent),
+        (0, &[(1, 0)], &[(7, 16)], absent),
+        (0, &[(1, 0)], &[(8, 0)], absent),
+        (0, &[(1, 0)], &[(6, 0)], no_measure),
+        (0, &[(1, 0)], &[(10, 0)], no_measure),
+        (0, &[], &[(1, 0)], no_measure),
+        (0, &[], &[], no_measure),
+        (16, &[(8, 0)], &[(1, 0)], no_measure),
+    ] {
+        let [base, top] = [path(base), path(top)];
+        assert_eq!(store.grade(label(subject), &base, &top, 2), refused(refusal));
+        assert_eq!(store.grade(label(subject), &top, &base, 2), refused(refusal));
+        assert_refused(store.as_mut_bytes(), subject, Call::Grade(base.as_bytes(), top.as_bytes(), 2), refusal.number());
+    }
+}
+
+#[test]
+fn refusal_11_sizes_on_all_their_bits() {
+    let mut store = measured();
+    for n in [0, 65, 255, 256, 257, 320, u32::MAX] {
+        for (base, top) in [(&[1, 0, 0][..], &[2, 0, 0][..]), (&[1, 0, 0], &[99, 0, 0]), (&[], &[6, 0, 0])] {
+            assert_refused(store.as_mut_bytes(), 0, Call::Grade(base, top, n), 11);
+        }
+        assert_refused(store.as_mut_bytes(), 0, Call::Grade(&[1, 0, 0], &[1, 0, 40], n), 4);
+        assert_eq!(store.grade(label(0), &path(&[(1, 0)]), &path(&[(2, 0)]), n), refused(Refusal::Sizes));
+    }
+}
+
+#[test]
+fn a_grade_divides_every_difference() {
+    let mut store = Store::empty();
+    let [base, top] = [path(&[(1, 0)]), path(&[(2, 0)])];
+    assert_eq!(store.insert(label(0), &base, Value::Measure(0)), Ok(0));
+    assert_eq!(store.insert(label(0), &top, Value::Measure(0)), Ok(0));
+    for (from, to) in
+        [(0, 1), (0, -1), (7, 100), (100, -29), (-64, 64), (i32::MIN, i32::MAX), (i32::MAX, i32::MIN), (-1, i32::MAX)]
+    {
+        assert_eq!(store.update(label(0), &base, Value::Measure(from)), Ok(1));
+        assert_eq!(store.update(label(0), &top, Value::Measure(to)), Ok(1));
+        for n in 1..=64 {
+            let Grade { step, remainder } = store.grade(label(0), &base, &top, n).expect("a grade");
+            assert_eq!(i64::from(n) * step + i64::from(remainder), i64::from(to) - i64::from(from), "{from} {to} {n}");
+            assert!(remainder < n, "{from} {to} {n}");
+        }
+    }
 }

@@ -1,14 +1,15 @@
 //! The product with one fault each: the comparison has to find every one of them.
 use crate::generate::XML_ROOMY;
-use crate::side::{Call, Name, Side, product};
+use crate::grade_faults as grade;
+use crate::side::{Answer, Call, Name, Side, product};
+use reference::STORE;
 use reference::label::LABELS;
 use reference::partition::{HEAD, PARTITION, SLOT, SLOTS, VALUE, partition};
 use reference::path::Path;
 use reference::value::Value;
-use reference::{Answer, STORE};
 
 /// Each fault and what it does.
-pub const FAULTS: [(&str, Side); 19] = [
+pub const FAULTS: [(&str, Side); 29] = [
     ("a refused view writes the output's first byte", writes_when_refused),
     ("a view writes the byte behind its listing", writes_behind),
     ("a refused call writes the store's last byte", writes_store_when_refused),
@@ -28,11 +29,21 @@ pub const FAULTS: [(&str, Side); 19] = [
     ("the XML has > as it is", leaves_greater),
     ("the XML closes an element by the name of the one around it", closes_by_parent),
     ("the XML has - for the value of a removed element", values_removed),
+    ("a grade rounds toward zero", grade::rounds_to_zero),
+    ("a grade has the remainder of the absolute difference", grade::divides_absolute),
+    ("a grade has a step of 32 bits", grade::cuts_step),
+    ("a grade takes the top's measure for both", grade::takes_top_twice),
+    ("a grade refuses 64 sizes", grade::refuses_64),
+    ("a grade takes 65 sizes", grade::takes_65),
+    ("a grade's number of sizes is cut to a byte", grade::cuts_sizes),
+    ("a grade tests the base for a measure before the top's view", grade::base_first),
+    ("a grade refuses the root by 4", grade::refuses_root),
+    ("a grade tells a hidden measure from a missing one", grade::tells_of_hidden),
 ];
 
 /// The answer of a refusal.
-fn refused(number: u32) -> Answer {
-    Answer { number, count: 0 }
+pub fn refused(number: u32) -> Answer {
+    Answer { number, ..Answer::default() }
 }
 
 /// The number the product would answer, without doing the call.
@@ -216,7 +227,7 @@ fn with_xml(call: &Call, store: &mut [u8], output: &mut [u8], change: impl Fn(&s
     let xml = change(&String::from_utf8_lossy(&space[..answer.count as usize]));
     let Some(written) = output.get_mut(..xml.len()) else { return refused(10) };
     written.copy_from_slice(xml.as_bytes());
-    Answer { number: 0, count: xml.len() as u64 }
+    Answer { count: xml.len() as u64, ..answer }
 }
 
 /// Escapes only `&` and `<`.

@@ -3,9 +3,10 @@ use crate::side::{Call, Name};
 use crate::stores::{name, valid_path, valid_value};
 use reference::STORE;
 use reference::label::{LABELS, dominates};
-use reference::partition::partition;
+use reference::partition::{Slot, partition};
 use reference::path::{DEPTH, Path, Step};
 use reference::random::Random;
+use reference::value::Value;
 
 /// An output that every listing fits: 6,144 lines and the first.
 const ROOMY: usize = 262_144;
@@ -13,7 +14,7 @@ const ROOMY: usize = 262_144;
 pub const XML_ROOMY: usize = 524_288;
 
 /// The calls, as often as each is made.
-const NAMES: [Name; 9] = [
+const NAMES: [Name; 11] = [
     Name::View,
     Name::View,
     Name::ViewXml,
@@ -23,6 +24,8 @@ const NAMES: [Name; 9] = [
     Name::Insert,
     Name::Update,
     Name::Delete,
+    Name::Grade,
+    Name::Grade,
 ];
 
 /// A subject and a path for him.
@@ -35,13 +38,15 @@ pub fn call(random: &mut Random, store: &[u8], preferred: Option<u8>) -> Call {
         Name::View | Name::ViewXml => view_aim(random, store),
         Name::Insert => insert_aim(random, store, preferred),
         Name::Update | Name::Delete => write_aim(random, store),
+        Name::Grade => grade_aim(random, store),
     };
+    let top = if name == Name::Grade { top(random, store, subject as u8, &path) } else { Vec::new() };
     let (kind, value) = valid_value(random);
     let output = match name {
         Name::ViewXml => random.pick(&[16_384, 65_536, 65_536, ROOMY, XML_ROOMY]),
         _ => random.pick(&[16_384, 16_384, 16_384, 65_536, ROOMY]),
     };
-    let mut call = Call { name, subject, path, kind, value, output };
+    let mut call = Call { name, subject, path, kind, value, top, n: sizes(random), output };
     while random.percent(20) {
         spoil(random, &mut call);
     }
@@ -52,7 +57,8 @@ pub fn call(random: &mut Random, store: &[u8], preferred: Option<u8>) -> Call {
 pub fn idle_delete(random: &mut Random, label: u8) -> Call {
     let subject = random.pick(&[label, label, label, 31]);
     let path = Path::new(&[Step { name: 60_000, label: subject }; DEPTH]).bytes();
-    Call { name: Name::Delete, subject: subject.into(), path, kind: 0, value: Vec::new(), output: 0 }
+    let none = Vec::new();
+    Call { name: Name::Delete, subject: subject.into(), path, kind: 0, value: none.clone(), top: none, n: 0, output: 0 }
 }
 
 /// A label that dominates this one.
@@ -88,7 +94,12 @@ fn end_label(path: &Path) -> u8 {
 /// The root, or something held below it, for a subject who dominates it mostly.
 fn view_aim(random: &mut Random, store: &[u8]) -> Aim {
     let path = if random.percent(35) { Path::default() } else { beginning(random, store, 0) };
-    let subject = if random.percent(80) { label_above(random, end_label(&path)) } else { random.below(32) as u8 };
+    seen_aim(random, &path)
+}
+
+/// This path, for a subject who dominates it mostly.
+fn seen_aim(random: &mut Random, path: &Path) -> Aim {
+    let subject = if random.percent(80) { label_above(random, end_label(path)) } else { random.below(32) as u8 };
     (subject.into(), path.bytes())
 }
 
@@ -125,14 +136,48 @@ fn write_aim(random: &mut Random, store: &[u8]) -> Aim {
     (if random.percent(90) { own } else { random.below(32) as u32 }, bytes)
 }
 
+/// The base of a grade: a measure mostly, for a subject who dominates it mostly.
+fn grade_aim(random: &mut Random, store: &[u8]) -> Aim {
+    let path = graded_path(random, store, 31);
+    seen_aim(random, &path)
+}
+
+/// The top of a grade: now and then its base again.
+fn top(random: &mut Random, store: &[u8], subject: u8, base: &[u8]) -> Vec<u8> {
+    if random.percent(10) { base.to_vec() } else { graded_path(random, store, subject).bytes() }
+}
+
+/// A measure that the subject sees mostly, else one of any label, or something held, which may be removed, or the root.
+fn graded_path(random: &mut Random, store: &[u8], subject: u8) -> Path {
+    let highest = if random.percent(92) { subject } else { 31 };
+    let measure = if random.percent(85) { measure_path(random, store, highest) } else { None };
+    measure.unwrap_or_else(|| beginning(random, store, 0))
+}
+
+/// The path of some measure that a partition dominated by this label holds, if there is one.
+fn measure_path(random: &mut Random, store: &[u8], subject: u8) -> Option<Path> {
+    let labels = (0..LABELS).filter(|label| store.len() == STORE && dominates(subject, *label));
+    let slots = labels.flat_map(|label| partition(store, label).slots());
+    let measures: Vec<Slot> = slots.filter(|slot| matches!(slot.value(), Some(Value::Measure(_)))).collect();
+    (!measures.is_empty()).then(|| random.pick(&measures).path())
+}
+
+/// A number of sizes, some of which no grade takes; some of these are one that it takes in their lowest byte.
+fn sizes(random: &mut Random) -> u32 {
+    let odd = random.pick(&[0, 1, 1, 2, 63, 64, 64, 65, 65, 128, 255, 256, 257, 320, 65_537, u32::MAX]);
+    if random.percent(80) { 1 + random.below(64) as u32 } else { odd }
+}
+
 /// Makes one input of a call another, mostly an invalid one.
 fn spoil(random: &mut Random, call: &mut Call) {
-    match random.below(8) {
+    match random.below(10) {
         0 => call.subject = odd_subject(random),
         1 => call.subject = random.below(32) as u32,
         2..5 => spoil_path(random, &mut call.path),
         5 => call.kind = random.pick(&[0, 1, 2, 3, 255, 256, 257, 258, 65_536, u32::MAX]),
         6 => call.value = odd_value(random),
+        7 => spoil_path(random, &mut call.top),
+        8 => call.n = sizes(random),
         _ => call.output = random.pick(&[0, 1, 8, 9, 10, 40, 100, 1000]),
     }
 }

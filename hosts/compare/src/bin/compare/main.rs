@@ -1,27 +1,29 @@
 //! Drives the product and the Rust program through random calls and compares what each answers, writes and leaves.
 mod faults;
 mod generate;
+mod grade_faults;
 mod lent;
 mod side;
 mod stores;
 
 use lent::Lent;
+use reference::STORE;
 use reference::partition::{PARTITION, SLOTS};
 use reference::random::Random;
-use reference::{Answer, STORE};
-use side::{Call, Name, Side};
+use side::{Answer, Call, Name, Side};
 use std::process::ExitCode;
 
 /// How many calls of each name were answered with each number.
-type Tally = [[u64; 11]; 5];
+type Tally = [[u64; 13]; 6];
 
 /// The numbers that each call can answer, in the order of `Name`.
-const NUMBERS: [(Name, &[usize]); 5] = [
+const NUMBERS: [(Name, &[usize]); 6] = [
     (Name::View, &[0, 1, 2, 3, 4, 7, 10]),
     (Name::Insert, &[0, 1, 2, 3, 4, 5, 6, 7, 8, 9]),
     (Name::Update, &[0, 1, 2, 3, 4, 5, 6, 7]),
     (Name::Delete, &[0, 1, 2, 3, 4, 6, 7]),
     (Name::ViewXml, &[0, 1, 2, 3, 4, 7, 10]),
+    (Name::Grade, &[0, 1, 2, 3, 4, 7, 11, 12]),
 ];
 
 /// What the command line asks for.
@@ -36,7 +38,7 @@ struct Plan {
 /// A difference between the two.
 struct Difference {
     again: String,
-    call: Call,
+    call: Box<Call>,
     what: String,
 }
 
@@ -164,7 +166,7 @@ impl Course {
             let call = generate::idle_delete(&mut random, (at / PARTITION) as u8);
             let answer = stores.both(&mut random, &call, side::product);
             let again = format!("--calls 0 --sweeps {}", sweep + 1);
-            self.count(&call, answer.map_err(|what| Difference { again, call: call.clone(), what })?);
+            self.count(&call, answer.map_err(|what| Difference { again, call: Box::new(call.clone()), what })?);
             stores.set_byte(at, *old);
         }
         Ok(())
@@ -192,7 +194,7 @@ impl Course {
                 let answer = stores.both(&mut random, &call, side);
                 let answer = answer.map_err(|what| {
                     let again = format!("--episode {episode}");
-                    Difference { again, call: call.clone(), what }
+                    Difference { again, call: Box::new(call.clone()), what }
                 })?;
                 self.count(&call, answer);
             }

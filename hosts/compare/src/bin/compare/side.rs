@@ -1,6 +1,5 @@
 //! The calls that are compared, and who carries them out.
 use dossier::raw;
-use reference::Answer;
 
 /// Which call.
 #[derive(Clone, Copy, PartialEq, Eq, Debug)]
@@ -10,9 +9,10 @@ pub enum Name {
     Update,
     Delete,
     ViewXml,
+    Grade,
 }
 
-/// A call with its inputs.
+/// A call with its inputs; the path of a grade is its base.
 #[derive(Clone, Debug)]
 pub struct Call {
     pub name: Name,
@@ -20,7 +20,18 @@ pub struct Call {
     pub path: Vec<u8>,
     pub kind: u32,
     pub value: Vec<u8>,
+    pub top: Vec<u8>,
+    pub n: u32,
     pub output: usize,
+}
+
+/// What a call answers: its number and its count, or a grade's number, step and remainder; the others are 0.
+#[derive(Clone, Copy, Default, PartialEq, Eq, Debug)]
+pub struct Answer {
+    pub number: u32,
+    pub count: u64,
+    pub step: i64,
+    pub remainder: u32,
 }
 
 /// Carries a call out on a lent store and a lent output.
@@ -28,25 +39,34 @@ pub type Side = fn(&Call, &mut [u8], &mut [u8]) -> Answer;
 
 /// The Rust program.
 pub fn reference(call: &Call, store: &mut [u8], output: &mut [u8]) -> Answer {
-    let Call { name, subject, path, kind, value, .. } = call;
-    match name {
+    let Call { name, subject, path, kind, value, top, n, .. } = call;
+    let reference::Answer { number, count } = match name {
         Name::View => reference::view(store, *subject, path, output),
         Name::Insert => reference::insert(store, *subject, path, *kind, value),
         Name::Update => reference::update(store, *subject, path, *kind, value),
         Name::Delete => reference::delete(store, *subject, path),
         Name::ViewXml => reference::view_xml(store, *subject, path, output),
-    }
+        Name::Grade => {
+            let reference::Grade { number, step, remainder } = reference::grade(store, *subject, path, top, *n);
+            return Answer { number, step, remainder, ..Answer::default() };
+        }
+    };
+    Answer { number, count, ..Answer::default() }
 }
 
 /// The product, through the calls on bytes of the package in hosts/rust.
 pub fn product(call: &Call, store: &mut [u8], output: &mut [u8]) -> Answer {
-    let Call { name, subject, path, kind, value, .. } = call;
+    let Call { name, subject, path, kind, value, top, n, .. } = call;
     let dossier::Answer { number, count } = match name {
         Name::View => raw::view(store, *subject, path, output),
         Name::Insert => raw::insert(store, *subject, path, *kind, value),
         Name::Update => raw::update(store, *subject, path, *kind, value),
         Name::Delete => raw::delete(store, *subject, path),
         Name::ViewXml => raw::view_xml(store, *subject, path, output),
+        Name::Grade => {
+            let dossier::GradeAnswer { number, step, remainder } = raw::grade(store, *subject, path, top, *n);
+            return Answer { number, step, remainder, ..Answer::default() };
+        }
     };
-    Answer { number, count }
+    Answer { number, count, ..Answer::default() }
 }
