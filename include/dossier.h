@@ -121,11 +121,11 @@ enum {
     DOSSIER_REFUSED_OUTPUT_SHORT = 10,
     /* Grade: the number of sizes is not 1 to 64. Tested right after 4. */
     DOSSIER_REFUSED_SIZES = 11,
-    /* Grade: both paths are in view, and either is no live measure's: a group's, a text's, a removed element's or the root. */
+    /* Grade: both paths are in view, and either is no live measure's: a group's, a text's, a removed element's or the root's. */
     DOSSIER_REFUSED_NO_MEASURE = 12
 };
 
-/* What a call but a grade answers, returned by value: its number, and its count (what it counts stands at each call). */
+/* What every call but a grade answers, returned by value: its number, and its count (what it counts stands at each call). */
 struct dossier_answer {
     uint32_t number;
     uint64_t count;

@@ -1,16 +1,16 @@
 -- The size of a whole number of 64 bits, below 0 or not.
-use mathlib.Core.Path.{_≡_, refl, sym, subst, _∙_}
+use mathlib.Core.Path.{_≡_, sym, subst, _∙_}
 use mathlib.Core.Bool.{true, false}
 use Prim.Native.Nat.{ℕ, suc, _+_, _^_, _<_}
 use native.Mathlib.Omega.{arith}
 use lib.IntN.{ℤ, pos, negsuc, natAbs, _-ℤ_, +ℤ-comm, -ℤ-one}
-use lib.Dec.{T, ltb}
+use lib.Dec.{T}
 use lib.Signed.{ltZ, nonNeg}
 use mir.Syntax.{w64}
 use mir.Val.{Fits, SFits, toZ, ofZ}
 use mir.Facts.{ltb-yes, fits-ofZ, sfits-toZ, toZ-ofZ}
 
--- a negative number is one less than a number of 63 bits is below 0
+-- -1 less a negative number is a number of 63 bits, from 0 on
 below : (y : ℤ) → SFits w64 y → ltZ y (pos 0) ≡ true → (k : ℕ) × (k < 2 ^ 63) × (negsuc 0 -ℤ y ≡ pos k)
 below (pos a) f e = let h : a < 0 = ltb-yes (subst T (sym e) tt) in absurd (omega arith)
 below (negsuc k) f e = (k, f .sfits, +ℤ-comm (negsuc 0) (pos (suc k)) ∙ -ℤ-one (pos (suc k)))

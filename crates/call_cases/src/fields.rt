@@ -25,21 +25,11 @@ pub fn subject(head: &[u8; 16]) -> u32
     word(head[8], head[9], head[10], head[11])
 }
 
-// The last word.
-fn third(head: &[u8; 16]) -> u32
+// The last word: a kind or a number of sizes.
+pub fn third(head: &[u8; 16]) -> u32
     ensures { λ r. ⌜ r ≡ getD (now (head .entry)) 12 0 + 256 * getD (now (head .entry)) 13 0 + 65536 * getD (now (head .entry)) 14 0 + 16777216 * getD (now (head .entry)) 15 0 ⌝ }
 {
     word(head[12], head[13], head[14], head[15])
-}
-
-// The kind of the value.
-pub fn kind(head: &[u8; 16]) -> u32 {
-    third(head)
-}
-
-// The number of sizes.
-pub fn sizes(head: &[u8; 16]) -> u32 {
-    third(head)
 }
 
 // The smaller of a word and a bound.

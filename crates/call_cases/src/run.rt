@@ -42,7 +42,7 @@ fn insert(store: &mut [u8], head: &[u8; 16], path: &[u8], value: &[u8]) {
         &mut store[0..size],
         fields::subject(head),
         path,
-        fields::kind(head),
+        fields::third(head),
         value,
     );
     show::answer(b"I", done.number, done.count);
@@ -55,7 +55,7 @@ fn update(store: &mut [u8], head: &[u8; 16], path: &[u8], value: &[u8]) {
         &mut store[0..size],
         fields::subject(head),
         path,
-        fields::kind(head),
+        fields::third(head),
         value,
     );
     show::answer(b"U", done.number, done.count);
@@ -76,7 +76,7 @@ fn grade(store: &[u8], head: &[u8; 16], base: &[u8], top: &[u8]) {
         fields::subject(head),
         base,
         top,
-        fields::sizes(head),
+        fields::third(head),
     );
     show::grade(done.number, done.step, done.remainder);
 }

@@ -36,7 +36,7 @@ pub fn grade(number: u32, step: i64, remainder: u32) {
     io::write_all(STDOUT_FILENO, b"\n");
 }
 
-// A whole number, with a minus sign if it is negative.
+// A whole number, with a minus sign if it is negative. Its size is counted from -1 on: that of the least number does not fit otherwise.
 fn whole(x: i64) {
     if x < 0 {
         io::write_all(STDOUT_FILENO, b"-");

@@ -9,10 +9,11 @@ ghost use Prim.Native.Nat.{_<_};
 ghost use lib.IntN.{pos};
 ghost use Rattle.model.specs.Rows.{rowCode, askedRows};
 ghost use Rattle.model.specs.Call as calls;
+ghost use Rattle.model.specs.Call.{gradeTold};
 ghost use Rattle.promise.specs.Did.{Acted, Graded};
 ghost use Rattle.table.specs.Opening.{Lent};
 ghost use Rattle.dossier_grade.specs.declared.sighting.Sight.the-variants.{Measure};
-ghost use Rattle.dossier_grade.specs.Sights.{told, toldOf};
+ghost use Rattle.dossier_grade.specs.Sights.{toldOf};
 
 // What the call answers: 0 or the number of its refusal, and the step and the remainder.
 pub struct Answer {
@@ -33,7 +34,7 @@ pub fn grade(store: &[u8], subject: u32, base: &[u8], top: &[u8], n: u32) -> Ans
 
 // A refusal: its number, and nothing.
 fn refused(number: u32) -> Answer
-    ensures { λ r. ⌜ told (r .number) (r .step) (r .remainder) ≡ told number (pos 0) 0 ⌝ }
+    ensures { λ r. ⌜ gradeTold (r .number) (r .step) (r .remainder) ≡ gradeTold number (pos 0) 0 ⌝ }
 {
     Answer {
         number,
@@ -45,7 +46,7 @@ fn refused(number: u32) -> Answer
 // The same for a label, where rows 1 and 2 have passed: what is asked, then what is seen at the two paths.
 fn act(store: &[u8], label: u8, base: &[u8], top: &[u8], n: u32) -> Answer
     requires { ⌜ Lent (now store) label ⌝ }
-    ensures { λ r. ⌜ Acted (calls.grade (now (base .entry)) (now (top .entry)) n) label (now (store .entry)) [] (told (r .number) (r .step) (r .remainder)) (now (store .entry)) [] ⌝ }
+    ensures { λ r. ⌜ Acted (calls.grade (now (base .entry)) (now (top .entry)) n) label (now (store .entry)) [] (gradeTold (r .number) (r .step) (r .remainder)) (now (store .entry)) [] ⌝ }
 {
     if store::some_raw(store, label) {
         return refused(3);
@@ -54,9 +55,9 @@ fn act(store: &[u8], label: u8, base: &[u8], top: &[u8], n: u32) -> Answer
     if number != 0 {
         return refused(number);
     }
-    let low = sighting::seen_at(store, label, base);
-    let high = sighting::seen_at(store, label, top);
-    between(low, high, n)
+    let at_base = sighting::seen_at(store, label, base);
+    let at_top = sighting::seen_at(store, label, top);
+    between(at_base, at_top, n)
 }
 
 // Rows 4 and 11: both paths, then the number of sizes.
@@ -79,18 +80,18 @@ fn asked_row(base: &[u8], top: &[u8], n: u32) -> u32
 }
 
 // Rows 7 and 12, by what is seen at the two paths, and the grade between two measures.
-fn between(low: Sight, high: Sight, n: u32) -> Answer
+fn between(base: Sight, top: Sight, n: u32) -> Answer
     requires { ⌜ 0 < n ⌝ }
-    ensures { λ r. ⌜ told (r .number) (r .step) (r .remainder) ≡ toldOf low high n ⌝ }
+    ensures { λ r. ⌜ gradeTold (r .number) (r .step) (r .remainder) ≡ toldOf base top n ⌝ }
 {
-    match low {
+    match base {
         Sight::Unseen => refused(7),
-        Sight::Other => match high {
+        Sight::Other => match top {
             Sight::Unseen => refused(7),
             Sight::Other => refused(12),
             Sight::Measure(_) => refused(12),
         },
-        Sight::Measure(a) => match high {
+        Sight::Measure(a) => match top {
             Sight::Unseen => refused(7),
             Sight::Other => refused(12),
             Sight::Measure(b) => evenly(a, b, n),
@@ -101,7 +102,7 @@ fn between(low: Sight, high: Sight, n: u32) -> Answer
 // The grade between two measures, given by their 32 bits.
 fn evenly(base: u32, top: u32, n: u32) -> Answer
     requires { ⌜ 0 < n ⌝ }
-    ensures { λ r. ⌜ told (r .number) (r .step) (r .remainder) ≡ toldOf (Measure base) (Measure top) n ⌝ }
+    ensures { λ r. ⌜ gradeTold (r .number) (r .step) (r .remainder) ≡ toldOf (Measure base) (Measure top) n ⌝ }
 {
     let even = grade::between(base, top, n);
     Answer {

@@ -1,19 +1,17 @@
 -- The arithmetic of an even grade: the step and the remainder of a difference of 32 bits, up and down, and the difference of two
 -- measures as that of two numbers from 0 on.
 use mathlib.Core.Path.{_≡_, refl, sym, ap, ap₂, subst, _∙_}
-use mathlib.Core.Bool.{not}
 use Prim.Native.Nat.{ℕ, zero, suc, _+_, _-_, _*_, _/_, _%_, _^_, _≤_, _<_}
 use native.Mathlib.Nat.{mul-zero, mul-suc, mod-lt, div-add-mod, div-le-self}
 use native.Mathlib.Omega.{arith}
 use lib.IntN.{ℤ, pos, negsuc, predℤ, negℤ, _+ℤ_, _-ℤ_, _*ℤ_, +ℤ-idl, +ℤ-idr, +ℤ-comm, +ℤ-assoc, +ℤ-negℤ-cancel, negℤ-+ℤ, -ℤ-one}
-use lib.Dec.{T, ltb}
+use lib.Dec.{ltb}
 use mir.Syntax.{w32, w64}
 use mir.Val.{Fits, SFits, toZ, ofZ}
-use mir.Facts.{ltb-no, yes-ltb, no-ltb, toZ-pos, toZ-ofZ}
+use mir.Facts.{yes-ltb, no-ltb, toZ-pos, toZ-ofZ}
 use Rattle.model.specs.Grade.{wholeOf, Even}
-use Rattle.model.proofs.Bools.{decide, cond-yes, cond-no}
+use Rattle.model.proofs.Bools.{cond-yes, cond-no}
 use Rattle.model.proofs.Dividing.{minus-pos, less-pos}
-use Rattle.grade.specs.Raised.{raisedOf}
 
 -- ---- n times a step that is not above 0
 
@@ -106,22 +104,21 @@ module _ {a : ℕ} (n : ℕ) (f : Fits w32 a) where
 
 -- ---- two measures
 
--- a measure's number from 0 on is the measure and 2147483648
-raised-whole : (m : ℕ) → Fits w32 m → pos (raisedOf m) ≡ wholeOf m +ℤ pos 2147483648
-unfolding raisedOf wholeOf
-raised-whole m f =
-    decide (ltb m 2147483648)
-    (λ (t : T (ltb m 2147483648)).
-    ap pos (cond-yes (ltb m 2147483648) (m + 2147483648) (m - 2147483648) t)
-    ∙ sym (ap (λ (z : ℤ). z +ℤ pos 2147483648) (cond-yes (ltb m 2147483648) (pos m) (negsuc (4294967295 - m)) t)))
-    (λ (t : T (not (ltb m 2147483648))).
-    let g : 2147483648 ≤ m = ltb-no t in
-    let b : suc (4294967295 - m) ≤ 2147483648 = omega (arith, f .fits) in
-    let e : m - 2147483648 ≡ 2147483648 - suc (4294967295 - m) = omega (arith, f .fits) in
-    ap pos (cond-no (ltb m 2147483648) (m + 2147483648) (m - 2147483648) t ∙ e)
-    ∙ sym (minus-pos 2147483648 (suc (4294967295 - m)) b)
-    ∙ +ℤ-comm (pos 2147483648) (negsuc (4294967295 - m))
-    ∙ sym (ap (λ (z : ℤ). z +ℤ pos 2147483648) (cond-no (ltb m 2147483648) (pos m) (negsuc (4294967295 - m)) t)))
+-- a measure raised to a number from 0 on, by its sign
+module _ (m : ℕ) where
+  pub raise-low : m < 2147483648 → pos (m + 2147483648) ≡ wholeOf m +ℤ pos 2147483648
+  unfolding wholeOf
+  raise-low h = sym (ap (λ (z : ℤ). z +ℤ pos 2147483648) (cond-yes (ltb m 2147483648) (pos m) (negsuc (4294967295 - m)) (yes-ltb h)))
+
+  pub raise-high : Fits w32 m → 2147483648 ≤ m → pos (m - 2147483648) ≡ wholeOf m +ℤ pos 2147483648
+  unfolding wholeOf
+  raise-high f h =
+      let b : suc (4294967295 - m) ≤ 2147483648 = omega (arith, f .fits) in
+      let e : m - 2147483648 ≡ 2147483648 - suc (4294967295 - m) = omega (arith, f .fits) in
+      ap pos e
+      ∙ sym (minus-pos 2147483648 (suc (4294967295 - m)) b)
+      ∙ +ℤ-comm (pos 2147483648) (negsuc (4294967295 - m))
+      ∙ sym (ap (λ (z : ℤ). z +ℤ pos 2147483648) (cond-no (ltb m 2147483648) (pos m) (negsuc (4294967295 - m)) (no-ltb h)))
 
 -- a difference stays where both are raised by as much
 shifted : (x y k : ℤ) → (y +ℤ k) -ℤ (x +ℤ k) ≡ y -ℤ x
@@ -130,28 +127,16 @@ shifted x y k =
     ∙ sym (+ℤ-assoc (y +ℤ k) (negℤ k) (negℤ x))
     ∙ ap (λ (z : ℤ). z +ℤ negℤ x) (+ℤ-negℤ-cancel y k)
 
-module _ {x y : ℕ} (fx : Fits w32 x) (fy : Fits w32 y) {from to : ℕ} (ex : from ≡ raisedOf x) (ey : to ≡ raisedOf y) where
+-- from the measure x to the measure y, which were raised
+module _ (x y : ℕ) {from to : ℕ} (ex : pos from ≡ wholeOf x +ℤ pos 2147483648) (ey : pos to ≡ wholeOf y +ℤ pos 2147483648) where
   difference : wholeOf y -ℤ wholeOf x ≡ pos to -ℤ pos from
-  difference =
-      sym (shifted (wholeOf x) (wholeOf y) (pos 2147483648))
-      ∙ sym (ap₂ _-ℤ_ (ap pos ey ∙ raised-whole y fy) (ap pos ex ∙ raised-whole x fx))
+  difference = sym (shifted (wholeOf x) (wholeOf y) (pos 2147483648)) ∙ sym (ap₂ _-ℤ_ ey ex)
 
   module _ {n : ℕ} {z : ℤ} {r : ℕ} where
     pub between-down : to < from → Even n (negℤ (pos (from - to))) z r → Even n (wholeOf y -ℤ wholeOf x) z r
     between-down h e =
-        let k : from - to ≡ suc (from - suc to) = omega arith in
-        subst (λ (d : ℤ). Even n d z r) (ap (λ (i : ℕ). negℤ (pos i)) k ∙ sym (less-pos to from h) ∙ sym difference) e
+        let i : from - to ≡ suc (from - suc to) = omega arith in
+        subst (λ (d : ℤ). Even n d z r) (ap (λ (j : ℕ). negℤ (pos j)) i ∙ sym (less-pos to from h) ∙ sym difference) e
 
     pub between-up : from ≤ to → Even n (pos (to - from)) z r → Even n (wholeOf y -ℤ wholeOf x) z r
     between-up h e = subst (λ (d : ℤ). Even n d z r) (sym (minus-pos to from h) ∙ sym difference) e
-
--- ---- raised by the code
-
-module _ (m : ℕ) where
-  pub raise-low : m < 2147483648 → m + 2147483648 ≡ raisedOf m
-  unfolding raisedOf
-  raise-low h = sym (cond-yes (ltb m 2147483648) (m + 2147483648) (m - 2147483648) (yes-ltb h))
-
-  pub raise-high : 2147483648 ≤ m → m - 2147483648 ≡ raisedOf m
-  unfolding raisedOf
-  raise-high h = sym (cond-no (ltb m 2147483648) (m + 2147483648) (m - 2147483648) (no-ltb h))

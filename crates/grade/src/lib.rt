@@ -1,10 +1,9 @@
 // The step and the remainder of an even grade, from two measures.
 ghost use mathlib.Core.Path.{_≡_};
 ghost use Prim.Native.Nat.{_<_};
-ghost use lib.IntN.{pos, negℤ, _-ℤ_};
+ghost use lib.IntN.{pos, negℤ, _+ℤ_, _-ℤ_};
 ghost use Rattle.model.specs.Grade as grades;
 ghost use Rattle.model.specs.Grade.{wholeOf};
-ghost use Rattle.grade.specs.Raised.{raisedOf};
 
 // A step, rounded down, and what is left over.
 pub struct Even {
@@ -12,9 +11,9 @@ pub struct Even {
     pub remainder: u32,
 }
 
-// A measure, given by its 32 bits, and 2147483648 more: measures compare as these numbers do.
+// The number from 0 on that is 2147483648 more than a measure, which is given by its 32 bits.
 fn raised(bits: u32) -> u32
-    ensures { λ r. ⌜ r ≡ raisedOf bits ⌝ }
+    ensures { λ r. ⌜ pos r ≡ wholeOf bits +ℤ pos 2147483648 ⌝ }
 {
     if bits < 2147483648 {
         return bits + 2147483648;

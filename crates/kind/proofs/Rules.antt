@@ -7,7 +7,7 @@ use native.Mathlib.Omega.{arith}
 use lib.ListN.{length}
 use lib.Dec.{T, leb, eqb}
 use mir.Facts.{leb-yes, yes-leb, eqb-yes, yes-eqb, ltb-yes}
-use borrow.Author.Tests.{le-leb, lt-leb}
+use borrow.Author.Tests.{le-leb, lt-leb, ne-eqb}
 use Rattle.model.specs.Lists.{all, isByte}
 use Rattle.model.specs.Value.{isPrintable, allowed}
 use Rattle.model.specs.Text.{ascii, measureOf, signed}
@@ -92,6 +92,14 @@ letter-rule (suc (suc (suc k))) = refl
 
 pub never : {X : Type 0} → false ≡ true → X
 never e = absurd (subst T (sym e) tt)
+
+-- only a measure is a number
+pub number-kind : (k : ℕ) → ruleOf k .number ≡ eqb k 1
+unfolding ruleOf
+number-kind zero = refl
+number-kind (suc zero) = refl
+number-kind (suc (suc zero)) = refl
+number-kind (suc (suc (suc k))) = sym (ne-eqb (suc (suc (suc k))) 1 (λ z. absurd (omega arith)))
 
 -- the rule of a number is that of a measure
 pub number-length : (k : ℕ) (v : List ℕ) → T (allowed k v) → ruleOf k .number ≡ true → length v ≡ 4

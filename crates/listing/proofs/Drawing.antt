@@ -24,7 +24,7 @@ use Rattle.model.proofs.Dominance.{label-lt}
 use Rattle.model.proofs.Paths.{same-eq, same-refl}
 use Rattle.model.proofs.Slots.{valid-fits}
 use Rattle.path.proofs.Steps.{last-range}
-use Rattle.slot.proofs.Reading.{length-path, short-steps, short-value}
+use Rattle.slot.proofs.Reading.{length-path, storable-short, short-steps}
 use Rattle.line.specs.Line.{lineOf}
 use Rattle.line.proofs.Widths.{line-short}
 use Rattle.listing.specs.Used.{Used, linesFrom}
@@ -52,7 +52,7 @@ module _ {b : List ℕ} (used : Used b) where
   used-steps = short-steps (used .label) b path-valid refl (sym (is-true _ content-valid)) refl
 
   pub used-value : valueLength b ≤ 16
-  used-value = short-value (used .label) b path-valid refl (sym (is-true _ content-valid)) refl (used .size)
+  used-value = storable-short b content-valid (used .size)
 
   -- the kind and value as they are read
   pub used-content : {k : ℕ} {v : List ℕ} → k ≡ readContent b .kind → v ≡ readContent b .value → T (allowed k v)

@@ -1,5 +1,6 @@
--- The step and the remainder of an even grade: the equation and the bound that they satisfy, and that no others do.
-use mathlib.Core.Path.{_≡_, refl, sym, ap, subst, _∙_}
+-- A measure as a whole number, and the step and the remainder of an even grade: the equation and the bound that they satisfy, and that no
+-- others do.
+use mathlib.Core.Path.{_≡_, sym, ap, subst, _∙_}
 use mathlib.Core.Bool.{not}
 use mathlib.Core.List.{List, _∷_}
 use Prim.Native.Nat.{ℕ, zero, suc, _+_, _-_, _*_, _/_, _%_, _≤_, _<_}

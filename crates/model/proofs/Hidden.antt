@@ -1,48 +1,43 @@
--- A set that a subject does not dominate may be another one: his calls come to the same.
-use mathlib.Core.Path.{_≡_, sym, ap, subst, _∙_}
-use mathlib.Core.Bool.{not, cond}
+-- A set that a subject does not dominate may be another one: his calls come to the same. So an element that he does not see is to him
+-- as a missing one.
+use mathlib.Core.Path.{_≡_, refl, sym, ap, subst, _∙_}
+use mathlib.Core.Bool.{not}
 use mathlib.Core.Option.{some}
-use mathlib.Core.List.{List, []}
+use mathlib.Core.List.{List}
 use Prim.Native.Nat.{ℕ}
 use lib.Dec.{T, eqb}
-use mir.Facts.{eqb-yes}
+use mir.Facts.{not-T, T-not, eqb-yes}
 use Rattle.model.specs.Label.{dominates}
 use Rattle.model.specs.Path.{Step}
 use Rattle.model.specs.Value.{Content}
 use Rattle.model.specs.Element.{Element, remove}
-use Rattle.model.specs.Model.{Cell, held, Model, ownSet, withSet}
+use Rattle.model.specs.Model.{held, Model, ownSet, withSet}
 use Rattle.model.specs.Call.{Call, callSubject, added, outcome}
-use Rattle.model.proofs.Bools.{decide, cond-yes, cond-no}
-use Rattle.model.proofs.Restriction.{restrict}
+use Rattle.model.proofs.Bools.{cond-no}
+use Rattle.model.proofs.Restriction.{restrict, same-restrict}
 use Rattle.model.proofs.Operations.{outcome-restrict}
 
-module _ (s : ℕ) (m : Model) (l : ℕ) (hidden : T (not (dominates s l))) (es : List Element) where
-  same-rest : restrict s (withSet l (some es) m) ≡ restrict s m
-  unfolding restrict
-  same-rest = λ i. record { size = m .size; cell = λ n. one n i }
-    where
-      one : (n : ℕ) → cond (dominates s n) (cond (eqb n l) (held es) (m .cell n)) (held []) ≡ cond (dominates s n) (m .cell n) (held [])
-      one n =
-          decide (eqb n l)
-          (λ (t : T (eqb n l)).
-          let h : T (not (dominates s n)) = subst (λ (k : ℕ). T (not (dominates s k))) (sym (eqb-yes t)) hidden in
-          cond-no (dominates s n) (cond (eqb n l) (held es) (m .cell n)) (held []) h ∙ sym (cond-no (dominates s n) (m .cell n) (held []) h))
-          (λ (t : T (not (eqb n l))). ap (λ (x : Cell). cond (dominates s n) x (held [])) (cond-no (eqb n l) (held es) (m .cell n) t))
+-- restricted to a subject, a model does not show the set of a label that he does not dominate
+hidden-restrict : (s : ℕ) (m : Model) (l : ℕ) → T (not (dominates s l)) → (es : List Element) → restrict s (withSet l (some es) m) ≡ restrict s m
+hidden-restrict s m l hidden es =
+    same-restrict s (withSet l (some es) m) m refl
+    (λ n d. cond-no (eqb n l) (held es) (m .cell n) (not-T (eqb n l) (λ t. T-not (dominates s l) (subst (λ (k : ℕ). T (dominates s k)) (eqb-yes t) d) hidden)))
 
 -- the outcome of each call is the same
 pub hidden-set : (c : Call) (m : Model) (l : ℕ) → T (not (dominates (callSubject c) l)) → (es : List Element)
     → outcome c (withSet l (some es) m) ≡ outcome c m
 hidden-set c m l hidden es =
     outcome-restrict c (withSet l (some es) m)
-    ∙ ap (outcome c) (same-rest (callSubject c) m l hidden es)
+    ∙ ap (outcome c) (hidden-restrict (callSubject c) m l hidden es)
     ∙ sym (outcome-restrict c m)
 
--- ---- an element that a subject does not see is to him as a missing one
+-- ---- an element that is not seen
 
--- the model with an element of label l at the path, and the one in which it is missing
+-- the model with an element of label l at the path
 abbrev pub present : ℕ → List Step → Content → Model → Model
 present l p c m = withSet l (some (added p c (ownSet l m))) m
 
+-- the model in which it is missing, with what is below it of the label
 abbrev pub missing : ℕ → List Step → Model → Model
 missing l p m = withSet l (some (remove p (ownSet l m))) m
 

@@ -17,10 +17,10 @@ use Rattle.model.specs.Element.{Element, rank, validElement, contains}
 use Rattle.model.specs.Model.{Model, ownSet, live}
 use Rattle.model.specs.View.{visible, inView, removed, contentAt}
 use Rattle.model.proofs.Bools.{and-l, and-r, or-l, or-r, decide, cond-yes, cond-no, is-true, is-false}
-use Rattle.model.proofs.Members.{all-in, any-in}
+use Rattle.model.proofs.Members.{all-in, any-in, in-any}
 use Rattle.model.proofs.Dominance.{label-lt, dominates-lower, dominates-trans}
 use Rattle.model.proofs.Order.{ascending-sorted, sorted-one}
-use Rattle.model.proofs.Paths.{prefix-below, key-keyed, keys-injective}
+use Rattle.model.proofs.Paths.{prefix-refl, prefix-below, key-keyed, keys-injective}
 use Rattle.model.proofs.Sets.{contains-in}
 use Rattle.model.proofs.Restriction.{live-own}
 use Rattle.model.proofs.Keeps.{ValidSets, visible-in}
@@ -126,6 +126,14 @@ module _ (m : Model) (sets : ValidSets m) where
         (subst (λ (n : ℕ). d ∈ ownSet n m) own-same g) h q
 
 -- ---- what is visible at a path
+
+-- where an element is visible, its path is in view
+pub seen-in-view : (s : ℕ) (m : Model) (p : List Step) → T (contains (visible s m) p) → T (inView s m p)
+unfolding inView
+seen-in-view s m [] t = tt
+seen-in-view s m (a ∷ p) t =
+    let r : (e : Element) × (e ∈ visible s m) × (a ∷ p ≡ e .path) = contains-in (visible s m) (a ∷ p) t in
+    in-any (λ e. isPrefix (a ∷ p) (e .path)) (visible s m) (r .1) (rw (← (r .2)) (prefix-refl (a ∷ p)))
 
 module _ (s : ℕ) (m : Model) (sets : ValidSets m) (p : List Step) (l : ℕ) (ends : T (endsIn l p)) where
   -- no other label's set has the path

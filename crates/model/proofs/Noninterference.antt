@@ -2,7 +2,7 @@
 -- its subject dominates, and it keeps its subject's set valid.
 use mathlib.Core.Path.{_≡_, refl, sym, ap, ap₂, _∙_, subst}
 use mathlib.Core.Logic.{_⊎_, inl, inr}
-use mathlib.Core.Bool.{Bool, not, cond}
+use mathlib.Core.Bool.{not, cond}
 use mathlib.Core.Option.{Option, none, some}
 use mathlib.Core.List.{List, [], _∷_}
 use Prim.Native.Nat.{ℕ}
@@ -15,7 +15,7 @@ use Rattle.model.specs.Path.{key}
 use Rattle.model.specs.Element.{Element}
 use Rattle.model.specs.Partition.{partitionSize, layout, readPartition, wellFormed}
 use Rattle.model.specs.Store.{partition, replace}
-use Rattle.model.specs.Model.{Cell, held, raw, openCell, cellBytes, Model, openModel, withSet}
+use Rattle.model.specs.Model.{held, raw, openCell, cellBytes, Model, openModel, withSet}
 use Rattle.model.specs.Call.{Call, callSubject, Answer, Outcome, outcome, after}
 use Rattle.model.specs.Run.{answerOf, writeSet, storeAfter, Event, call, corruption, corrupted, remains, observed, purge, spares, feed, answers, Unaffected, Noninterference}
 use Rattle.model.proofs.Bools.{or-l, and-l, and-r, decide, cond-yes, cond-no}
@@ -23,7 +23,7 @@ use Rattle.model.proofs.Lists.{length-pad}
 use Rattle.model.proofs.Dominance.{dominates-upper, dominates-trans}
 use Rattle.model.proofs.Partitions.{ValidSet, well-formed, yes-well-formed, layout-read, read-layout, layout-well-formed, length-layout}
 use Rattle.model.proofs.Stores.{yes-has, length-replace, partition-own, partition-other}
-use Rattle.model.proofs.Restriction.{restrict}
+use Rattle.model.proofs.Restriction.{restrict, same-restrict}
 use Rattle.model.proofs.Keeps.{ValidSets, open-valid}
 use Rattle.model.proofs.Operations.{outcome-restrict, Kept, call-keeps}
 
@@ -88,17 +88,6 @@ remains-below o n c r t = over (or-yes (not (isLabel (callSubject c))) (dominate
     over : T (not (isLabel (callSubject c))) ⊎ T (dominates o (callSubject c)) → T (dominates o n)
     over (inl k) = absurd (T-not (isLabel (callSubject c)) (dominates-upper (callSubject c) n t) k)
     over (inr k) = dominates-trans o (callSubject c) n k t
-
--- so it is restricted alike in the store and in the model
-same-restrict : (s : ℕ) (a b : Model) → a .size ≡ b .size → ((n : ℕ) → T (dominates s n) → a .cell n ≡ b .cell n) → restrict s a ≡ restrict s b
-unfolding restrict
-same-restrict s a b e h = λ i. record { size = e i; cell = λ n. one (dominates s n) (a .cell n) (b .cell n) (h n) i }
-  where
-    one : (d : Bool) (x y : Cell) → (T d → x ≡ y) → cond d x (held []) ≡ cond d y (held [])
-    one d x y f =
-        decide d
-        (λ (t : T d). cond-yes d x (held []) t ∙ f t ∙ sym (cond-yes d y (held []) t))
-        (λ (t : T (not d)). cond-no d x (held []) t ∙ sym (cond-no d y (held []) t))
 
 -- agreement is kept by what leaves the observer's partitions alone
 agree-same : (o : ℕ) (s t : List ℕ) (m : Model) → length t ≡ length s → ((n : ℕ) → T (dominates o n) → partition n t ≡ partition n s)

@@ -1,6 +1,6 @@
 -- A refused call tells its number, yields and writes nothing and leaves the store; another does what its operation does.
-use mathlib.Core.Path.{_≡_, refl, ap, _∙_}
-use mathlib.Core.Option.{Option}
+use mathlib.Core.Path.{_≡_, refl, sym, ap, _∙_}
+use mathlib.Core.Option.{Option, none, some}
 use mathlib.Core.List.{List, _++_}
 use Prim.Native.Nat.{ℕ, _≤_}
 use lib.ListN.{length, drop}
@@ -9,11 +9,11 @@ use borrow.Author.Tests.{eq-eqb}
 use Rattle.model.specs.Label.{isLabel}
 use Rattle.model.specs.Store.{storeSize}
 use Rattle.model.specs.Model.{Model, openModel}
-use Rattle.model.specs.Rows.{refusal, sizeRows, labelRows, formedRows}
+use Rattle.model.specs.Rows.{refusal, codeOf, sizeRows, labelRows, formedRows}
 use Rattle.model.specs.Call.{Call, callSubject, callerRows, opRows, table, Answer, Outcome, refused, done, outcomeBy, outcome}
 use Rattle.model.specs.Run.{answerOf, writeSet, storeAfter, outputAfter}
 use Rattle.model.proofs.Bools.{yes-not-not}
-use Rattle.model.proofs.Rows.{Passes, refusal-past}
+use Rattle.model.proofs.Rows.{Passes, refusal-past, numbered, rows-pass, rows-none}
 use Rattle.model.proofs.Operations.{roomOf, outcome-either, outcome-fits}
 
 module _ (c : Call) (m : Model) where
@@ -29,6 +29,15 @@ module _ (c : Call) (m : Model) where
       refusal-past (sizeRows m) _ (rw (eq-eqb (m .size) storeSize e) tt, tt)
       ∙ refusal-past (callerRows (c .who) (c .op)) _ p
       ∙ refusal-past (labelRows (callSubject c)) _ (yes-not-not (isLabel (callSubject c)) l, tt)
+
+  -- where each row has a number, a call that tells 0 is refused by none
+  pub told-done : T (numbered (table c m)) → outcome c m .answer .told .number ≡ 0 → refusal (table c m) ≡ none
+  unfolding outcome refused done
+  told-done t e = rows-none (table c m) (rows-pass (table c m) t refl (sym (number-is (refusal (table c m))) ∙ e))
+    where
+      number-is : (r : Option ℕ) → outcomeBy r (c .op) (callSubject c) m .answer .told .number ≡ codeOf r
+      number-is none = refl
+      number-is (some k) = refl
 
 module _ (c : Call) (s : List ℕ) where
   -- whatever tells another number than 0 is a refusal, and changes nothing

@@ -13,7 +13,7 @@ use Rattle.model.specs.Element.{Element, contains}
 use Rattle.model.specs.Model.{Cell, held, isHeld, elements, Model, ownSet, liveBy, live}
 use Rattle.model.specs.View.{visible, reaches, inView}
 use Rattle.model.specs.Rows.{row, someRaw, refusal, ownLiveRows, placeRows}
-use Rattle.model.proofs.Bools.{cond-yes, not-not}
+use Rattle.model.proofs.Bools.{decide, cond-yes, cond-no, not-not}
 use Rattle.model.proofs.Dominance.{dominates-refl}
 use Rattle.model.proofs.Rows.{refusal-behind}
 
@@ -43,6 +43,17 @@ module _ (s : ℕ) (m : Model) where
   pub own-restrict : T (isLabel s) → ownSet s (restrict s m) ≡ ownSet s m
   unfolding ownSet restrict
   own-restrict t = ap elements (cond-yes (dominates s s) (m .cell s) (held []) (dominates-refl s t))
+
+-- models that are alike in the partitions that s dominates are alike restricted
+pub same-restrict : (s : ℕ) (a b : Model) → a .size ≡ b .size → ((n : ℕ) → T (dominates s n) → a .cell n ≡ b .cell n) → restrict s a ≡ restrict s b
+unfolding restrict
+same-restrict s a b e h = λ i. record { size = e i; cell = λ n. one (dominates s n) (a .cell n) (b .cell n) (h n) i }
+  where
+    one : (d : Bool) (x y : Cell) → (T d → x ≡ y) → cond d x (held []) ≡ cond d y (held [])
+    one d x y f =
+        decide d
+        (λ (t : T d). cond-yes d x (held []) t ∙ f t ∙ sym (cond-yes d y (held []) t))
+        (λ (t : T (not d)). cond-no d x (held []) t ∙ sym (cond-no d y (held []) t))
 
 -- an element of the own label is live if the own set has it
 pub live-own : (s : ℕ) (m : Model) (p : List Step) → T (endsIn s p) → live m p ≡ contains (ownSet s m) p

@@ -78,6 +78,9 @@ pub record Told : Type 0 where
 abbrev pub counted : ℕ → ℕ → Told
 counted k n = record { number = k; result = count n }
 
+abbrev pub gradeTold : ℕ → ℤ → ℕ → Told
+gradeTold k z r = record { number = k; result = graded z r }
+
 pub record Answer : Type 0 where
   pub told : Told
   pub written : List ℕ

@@ -14,7 +14,7 @@ use Rattle.model.specs.Value.{Content}
 use Rattle.model.specs.Partition.{partitionSize}
 use Rattle.model.specs.Store.{partition, emptyStore}
 use Rattle.model.specs.Text.{ascii}
-use Rattle.model.specs.Call.{view, insert, update, delete, viewXml, grade, Call, by, count, graded, Answer}
+use Rattle.model.specs.Call.{view, insert, update, delete, viewXml, grade, Call, by, count, gradeTold, Answer}
 use Rattle.model.specs.Run.{answerOf, storeAfter, call, corrupted, run}
 use Rattle.model.specs.Script.{lentPath, Prints}
 
@@ -77,10 +77,10 @@ printed n t = record { told = record { number = 0; result = count n }; written =
 
 -- a grade that is done, and one that is refused
 abbrev evenly : ℤ → ℕ → Answer
-evenly z r = record { told = record { number = 0; result = graded z r }; written = [] }
+evenly z r = record { told = gradeTold 0 z r; written = [] }
 
 abbrev ungraded : ℕ → Answer
-ungraded k = record { told = record { number = k; result = graded (pos 0) 0 }; written = [] }
+ungraded k = record { told = gradeTold k (pos 0) 0; written = [] }
 
 -- ---- calls of the rows
 
@@ -138,25 +138,27 @@ xmlCalls =
     ∷ by 0 (delete p10)
     ∷ []
 
--- a path of one step; one of two; seven measures, among them the least and the greatest, a group and a removed element
-abbrev one : ℕ → ℕ → List ℕ
-one n l = path (step n l ∷ [])
+-- a path of one step
+abbrev short : ℕ → ℕ → List ℕ
+short n l = path (step n l ∷ [])
 
+-- 7:16, under the group 6:0
 abbrev p7 : List ℕ
 p7 = path (step 6 0 ∷ step 7 16 ∷ [])
 
+-- measures of 1000, 1025 and 990, the least, the greatest, and 5 and 6 of label 16, one under a group, the other under a removed element
 abbrev sizeCalls : List Call
 sizeCalls =
-    by 0 (insert (one 1 0) (measure 232 3 0 0))
-    ∷ by 0 (insert (one 2 0) (measure 1 4 0 0))
-    ∷ by 0 (insert (one 3 0) (measure 222 3 0 0))
-    ∷ by 0 (insert (one 4 0) (measure 0 0 0 128))
-    ∷ by 0 (insert (one 5 0) (measure 255 255 255 127))
-    ∷ by 0 (insert (one 6 0) group)
+    by 0 (insert (short 1 0) (measure 232 3 0 0))
+    ∷ by 0 (insert (short 2 0) (measure 1 4 0 0))
+    ∷ by 0 (insert (short 3 0) (measure 222 3 0 0))
+    ∷ by 0 (insert (short 4 0) (measure 0 0 0 128))
+    ∷ by 0 (insert (short 5 0) (measure 255 255 255 127))
+    ∷ by 0 (insert (short 6 0) group)
     ∷ by 16 (insert p7 (measure 5 0 0 0))
-    ∷ by 0 (insert (one 8 0) group)
+    ∷ by 0 (insert (short 8 0) group)
     ∷ by 16 (insert (path (step 8 0 ∷ step 9 16 ∷ [])) (measure 6 0 0 0))
-    ∷ by 0 (delete (one 8 0))
+    ∷ by 0 (delete (short 8 0))
     ∷ []
 
 -- an element n:0, and 32 of them
@@ -307,24 +309,24 @@ furtherCases =
     (printed 80 "<dossier subject=\"0\"><e10 label=\"0\" preserve=\"PRESENT\" kind=\"G\"></e10></dossier>") []
     ∷ calls xmlCalls (by 16 (viewXml (path (step 9 0 ∷ [])) 16384)) (refusedBy 7) []
     -- even grades: up, down, by one path, over the whole range and back
-    ∷ calls sizeCalls (by 0 (grade (one 1 0) (one 2 0) 4)) (evenly (pos 6) 1) []
-    ∷ calls sizeCalls (by 0 (grade (one 1 0) (one 3 0) 3)) (evenly (negsuc 3) 2) []
-    ∷ calls sizeCalls (by 0 (grade (one 1 0) (one 1 0) 64)) (evenly (pos 0) 0) []
-    ∷ calls sizeCalls (by 0 (grade (one 4 0) (one 5 0) 1)) (evenly (pos 4294967295) 0) []
-    ∷ calls sizeCalls (by 0 (grade (one 5 0) (one 4 0) 64)) (evenly (negsuc 67108863) 1) []
+    ∷ calls sizeCalls (by 0 (grade (short 1 0) (short 2 0) 4)) (evenly (pos 6) 1) []
+    ∷ calls sizeCalls (by 0 (grade (short 1 0) (short 3 0) 3)) (evenly (negsuc 3) 2) []
+    ∷ calls sizeCalls (by 0 (grade (short 1 0) (short 1 0) 64)) (evenly (pos 0) 0) []
+    ∷ calls sizeCalls (by 0 (grade (short 4 0) (short 5 0) 1)) (evenly (pos 4294967295) 0) []
+    ∷ calls sizeCalls (by 0 (grade (short 5 0) (short 4 0) 64)) (evenly (negsuc 67108863) 1) []
     -- a measure of a higher label, for a subject that sees it and for one that does not; a missing one
-    ∷ calls sizeCalls (by 16 (grade (one 1 0) p7 2)) (evenly (negsuc 497) 1) []
-    ∷ calls sizeCalls (by 0 (grade (one 1 0) p7 2)) (ungraded 7) []
-    ∷ calls sizeCalls (by 0 (grade (one 1 0) (one 99 0) 2)) (ungraded 7) []
+    ∷ calls sizeCalls (by 16 (grade (short 1 0) p7 2)) (evenly (negsuc 497) 1) []
+    ∷ calls sizeCalls (by 0 (grade (short 1 0) p7 2)) (ungraded 7) []
+    ∷ calls sizeCalls (by 0 (grade (short 1 0) (short 99 0) 2)) (ungraded 7) []
     -- a group, a removed element and the root are no measures; 7 is looked at before, for both paths
-    ∷ calls sizeCalls (by 0 (grade (one 1 0) (one 6 0) 2)) (ungraded 12) []
-    ∷ calls sizeCalls (by 16 (grade (one 8 0) (one 1 0) 2)) (ungraded 12) []
-    ∷ calls sizeCalls (by 0 (grade [] (one 1 0) 2)) (ungraded 12) []
-    ∷ calls sizeCalls (by 0 (grade (one 6 0) (one 99 0) 2)) (ungraded 7) []
+    ∷ calls sizeCalls (by 0 (grade (short 1 0) (short 6 0) 2)) (ungraded 12) []
+    ∷ calls sizeCalls (by 16 (grade (short 8 0) (short 1 0) 2)) (ungraded 12) []
+    ∷ calls sizeCalls (by 0 (grade [] (short 1 0) 2)) (ungraded 12) []
+    ∷ calls sizeCalls (by 0 (grade (short 6 0) (short 99 0) 2)) (ungraded 7) []
     -- no sizes and 65; the sizes are looked at before 7 and after 4
-    ∷ calls sizeCalls (by 0 (grade (one 1 0) (one 2 0) 65)) (ungraded 11) []
-    ∷ calls sizeCalls (by 0 (grade (one 1 0) (one 99 0) 0)) (ungraded 11) []
-    ∷ calls sizeCalls (by 0 (grade (one 1 0) (one 1 40) 0)) (ungraded 4) []
+    ∷ calls sizeCalls (by 0 (grade (short 1 0) (short 2 0) 65)) (ungraded 11) []
+    ∷ calls sizeCalls (by 0 (grade (short 1 0) (short 99 0) 0)) (ungraded 11) []
+    ∷ calls sizeCalls (by 0 (grade (short 1 0) (short 1 40) 0)) (ungraded 4) []
     -- document 01's script
     ∷ script
     "0\tI\t10:0\tG\t-\n16\tI\t10:0/20:16\tM\t-150\n0\tD\t10:0\n0\tV\t/\n16\tV\t/\n"

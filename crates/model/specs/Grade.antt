@@ -27,6 +27,7 @@ measureIn (some c) = cond (eqb (c .kind) 1) (some (wholeOf (measureOf (c .value)
 unfoldable pub measureAt : List Element → List Step → Option ℤ
 measureAt v p = measureIn (contentAt v p)
 
+-- whether there is one
 abbrev pub isMeasure : Option ℤ → Bool
 isMeasure none = false
 isMeasure (some z) = true
@@ -38,7 +39,7 @@ pub record Even (n : ℕ) (d step : ℤ) (remainder : ℕ) : Type 0 where
   pub sum : d ≡ pos n *ℤ step +ℤ pos remainder
   pub bound : remainder < n
 
--- the step: d divided by n, rounded down
+-- the step: d divided by n, rounded down; -(d + 1) so divided is -(d / n + 1)
 abbrev pub stepOf : ℕ → ℤ → ℤ
 stepOf n (pos d) = pos (d / n)
 stepOf n (negsuc d) = negsuc (d / n)

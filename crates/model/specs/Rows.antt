@@ -70,6 +70,10 @@ pathRows p = row 4 (not (goodPath p)) ∷ []
 abbrev pub viewPathRows : List ℕ → List Row
 viewPathRows p = row 4 (not (viewPath p)) ∷ []
 
+-- row 11: there are 1 to 64 sizes
+abbrev pub sizesRows : ℕ → List Row
+sizesRows n = row 11 (not (leb 1 n && leb n 64)) ∷ []
+
 -- rows 4 and 5: the path, then the kind and the value that are brought to it
 abbrev pub bringRows : List ℕ → Content → List Row
 bringRows p c = pathRows p ++ (row 5 (not (bringable c)) ∷ [])
@@ -82,6 +86,10 @@ ownLiveRows s m p = row 6 (not (endsIn s p)) ∷ row 7 (not (live m p)) ∷ []
 abbrev pub seenRows : ℕ → Model → List Step → List Row
 seenRows s m p = row 7 (not (inView s m p)) ∷ []
 
+-- row 12: the path is a live measure's
+abbrev pub measureRows : ℕ → Model → List Step → List Row
+measureRows s m p = row 12 (not (isMeasure (measureAt (visible s m) p))) ∷ []
+
 -- rows 4 and 7 of a reading call: the path, and that it is in view
 abbrev pub lookRows : ℕ → Model → List ℕ → List Row
 lookRows s m p = viewPathRows p ++ seenRows s m (stepsOf p)
@@ -91,18 +99,6 @@ abbrev pub placeRows : ℕ → Model → List Step → List Row
 placeRows s m p =
     row 6 (not (endsIn s p)) ∷ (seenRows s m (parent p) ++ (row 8 (live m p) ∷ row 9 (leb 32 (length (ownSet s m))) ∷ []))
 
--- row 10: what is written fits into the output
-abbrev pub roomRows : ℕ → List ℕ → List Row
-roomRows room text = row 10 (ltb room (length text)) ∷ []
-
--- row 11: there are 1 to 64 sizes
-abbrev pub sizesRows : ℕ → List Row
-sizesRows n = row 11 (not (leb 1 n && leb n 64)) ∷ []
-
--- row 12: the path is a live measure's
-abbrev pub measureRows : ℕ → Model → List Step → List Row
-measureRows s m p = row 12 (not (isMeasure (measureAt (visible s m) p))) ∷ []
-
 -- rows 4 and 11 of an even grade: each of the two paths, then the sizes
 abbrev pub askedRows : (base top : List ℕ) → ℕ → List Row
 askedRows p q n = viewPathRows p ++ viewPathRows q ++ sizesRows n
@@ -110,3 +106,7 @@ askedRows p q n = viewPathRows p ++ viewPathRows q ++ sizesRows n
 -- rows 7 and 12 of an even grade: each of the two paths is in view, then each is a live measure's
 abbrev pub measuredRows : ℕ → Model → (base top : List Step) → List Row
 measuredRows s m p q = seenRows s m p ++ seenRows s m q ++ measureRows s m p ++ measureRows s m q
+
+-- row 10: what is written fits into the output
+abbrev pub roomRows : ℕ → List ℕ → List Row
+roomRows room text = row 10 (ltb room (length text)) ∷ []

@@ -20,8 +20,7 @@ use Rattle.model.proofs.Order.{precedes-total}
 use Rattle.path.specs.Common.{isBefore, Compared}
 use Rattle.slot.specs.Slot.{Readable}
 use Rattle.partition.specs.Place.{Formed}
-use Rattle.model.proofs.Walks.{all-range}
-use Rattle.partition.proofs.Finding.{facts, elementAt, elements-range, formed-slot}
+use Rattle.partition.proofs.Finding.{formed-valid, formed-slot}
 use Rattle.store.specs.Opened.{Opened}
 use Rattle.store.proofs.Parts.{dominated-lt}
 use Rattle.store.proofs.Viewing.{opened-formed}
@@ -53,8 +52,7 @@ module _ (s : ℕ) (b : List ℕ) (r : ℕ) (t : T (refers s b r)) where
   unfolding elementOf slotOf
   ref-valid o =
       let f : Formed (partition (r / 32) b) = record { label = r / 32; is = opened-formed o (r / 32) ref-dominated } in
-      all-range (elementAt (partition (r / 32) b)) (validElement (r / 32)) 0 (count (partition (r / 32) b)) (r % 32)
-      (rw (elements-range (partition (r / 32) b)) at (facts f .valid)) (omega arith) (omega (arith, ref-used))
+      formed-valid f (r % 32) (omega (arith, ref-used))
 
 -- ---- which of two runs has the next element
 

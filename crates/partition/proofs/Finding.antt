@@ -58,16 +58,18 @@ pub facts : {b : List ℕ} (f : Formed b) → WellFormed key (f .label) b
 facts {b} f = well-formed key (f .label) b (f .is)
 
 -- its elements are in order
-formed-sorted : {b : List ℕ} → Formed b → T (sorted rank (readPartition b))
+pub formed-sorted : {b : List ℕ} → Formed b → T (sorted rank (readPartition b))
 formed-sorted {b} f = ascending-sorted rank (readPartition b) (facts f .ascends)
 
--- each of its slots can be read
+-- each of its slots holds a valid element
+pub formed-valid : {b : List ℕ} (f : Formed b) (i : ℕ) → i < count b → T (validElement (f .label) (elementAt b i))
+formed-valid {b} f i h =
+    all-range (elementAt b) (validElement (f .label)) 0 (count b) i (rw (elements-range b) at (facts f .valid)) (omega arith) (omega arith)
+
+-- so it can be read
 pub formed-slot : {b : List ℕ} (f : Formed b) (i : ℕ) → i < count b → depth (slotAt b i) ≤ 6
 unfolding readSlot
-formed-slot {b} f i h =
-    let v : T (validElement (f .label) (elementAt b i)) =
-    all-range (elementAt b) (validElement (f .label)) 0 (count b) i (rw (elements-range b) at (facts f .valid)) (omega arith) (omega arith) in
-    rw (length-path (slotAt b i)) at (valid-fits (f .label) (elementAt b i) v .steps)
+formed-slot {b} f i h = rw (length-path (slotAt b i)) at (valid-fits (f .label) (elementAt b i) (formed-valid f i h) .steps)
 
 -- so can what a read of slot i gives
 pub formed-readable : {b x : List ℕ} (f : Formed b) {i c : ℕ} → (c ≡ count b) × (c < 256) → i < c → (x ≡ slotAt b i) × (length x ≡ slotSize) → Readable x

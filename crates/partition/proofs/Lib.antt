@@ -3,4 +3,5 @@ pub mod Linking
 pub mod Checking
 pub mod Placing
 pub mod Finding
+pub mod Contents
 pub mod Layouts

@@ -209,24 +209,24 @@ replaced-none p c (e ∷ es) t =
     ap₂ (λ (d : Element) (l : List Element). d ∷ l)
     (cond-no (samePath p (e .path)) (record { path = p; content = c }) e (n .0)) (replaced-none p c es (n .1))
 
--- an element that has the path stands at its place, and is the one that gets the content
-pub record Stands (p : List Step) (c : Content) (es : List Element) : Type 0 where
+-- an element that has the path stands at its place, and is the one that gets a content
+pub record Stands (p : List Step) (es : List Element) : Type 0 where
   pub within : placeOf p es < length es
-  pub is : replacedAt (placeOf p es) c es ≡ replaced p c es
+  pub is : (c : Content) → replacedAt (placeOf p es) c es ≡ replaced p c es
 
-pub stands : (p : List Step) (c : Content) (es : List Element) → T (sorted rank es) → T (contains es p) → Stands p c es
+pub stands : (p : List Step) (es : List Element) → T (sorted rank es) → T (contains es p) → Stands p es
 unfolding replaced
-stands p c [] s t = absurd (List·Memᴰ·not-nil (contains-in [] p t .1))
-stands p c (e ∷ es) s t =
+stands p [] s t = absurd (List·Memᴰ·not-nil (contains-in [] p t .1))
+stands p (e ∷ es) s t =
     decide (isBefore (e .path) p)
     (λ (b : T (isBefore (e .path) p)).
     let y : isBefore (e .path) p ≡ true = is-true (isBefore (e .path) p) b in
     let q : T (not (samePath p (e .path))) = after-other p e es b in
-    let r : Stands p c es = stands p c es (and-r (ahead rank e es) (sorted rank es) s) (rw (contains-after p e es b) at t) in
+    let r : Stands p es = stands p es (and-r (ahead rank e es) (sorted rank es) s) (rw (contains-after p e es b) at t) in
     let w : placeOf p es < length es = r .within in
     record {
       within = rw y (omega arith);
-      is = rw y (ap₂ (λ (d : Element) (l : List Element). d ∷ l) (sym (cond-no (samePath p (e .path)) (record { path = p; content = c }) e q)) (r .is));
+      is = λ c. rw y (ap₂ (λ (d : Element) (l : List Element). d ∷ l) (sym (cond-no (samePath p (e .path)) (record { path = p; content = c }) e q)) (r .is c));
     })
     (λ (b : T (not (isBefore (e .path) p))).
     let n : isBefore (e .path) p ≡ false = is-false (isBefore (e .path) p) b in
@@ -234,7 +234,7 @@ stands p c (e ∷ es) s t =
     let z : p ≡ e .path = same-eq p (e .path) q in
     record {
       within = rw n (omega arith);
-      is =
+      is = λ c.
           rw n
           (ap₂ (λ (d : Element) (l : List Element). d ∷ l)
           (ap (λ (x : List Step). record { path = x; content = c }) (sym z) ∙ sym (cond-yes (samePath p (e .path)) (record { path = p; content = c }) e q))

@@ -25,6 +25,10 @@ refusedTold k o = record { number = k; result = nothing o }
 pub gives-as : {x z : Outcome} → x ≡ z → {s : ℕ} {b y : List ℕ} {t : Told} {b' y' : List ℕ} → Gives z s b y t b' y' → Gives x s b y t b' y'
 gives-as e g = rw e g
 
+-- and so does what is told the same
+pub gives-told : {x : Outcome} {s : ℕ} {b y : List ℕ} {t u : Told} {b' y' : List ℕ} → t ≡ u → Gives x s b y u b' y' → Gives x s b y t b' y'
+gives-told e g = record { told-is = e ∙ g .told-is; store-is = g .store-is; output-is = g .output-is }
+
 module _ (o : Op) (s : ℕ) (b y : List ℕ) where
   -- a refusal leaves the store and the output
   gives-refused : (k : ℕ) → Gives (refused k o) s b y (refusedTold k o) b y

@@ -1,3 +1,4 @@
 -- Laws of calls that do as promised.
 pub mod Doing
+pub mod Grading
 pub mod Runs

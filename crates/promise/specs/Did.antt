@@ -6,7 +6,7 @@ use lib.IntN.{ℤ}
 use lib.ListN.{length, drop}
 use Rattle.model.specs.Model.{openModel}
 use Rattle.model.specs.Rows.{refusal, formedRows}
-use Rattle.model.specs.Call.{Call, callSubject, by, Op, view, insert, update, delete, viewXml, grade, opRows, graded, Told, counted, Outcome, outcomeBy, outcome}
+use Rattle.model.specs.Call.{Call, callSubject, by, Op, view, insert, update, delete, viewXml, grade, opRows, Told, counted, gradeTold, Outcome, outcomeBy, outcome}
 use Rattle.model.specs.Run.{writeSet}
 
 -- what is told, the store and the output afterwards are those of an outcome for subject s; what is written is laid over the output
@@ -37,7 +37,7 @@ abbrev pub ViewedXml : (subject : ℕ) (path store output : List ℕ) (number co
 ViewedXml s p b o k n o' = Did (by s (viewXml p (length o))) b o (counted k n) b o'
 
 abbrev pub Graded : (subject : ℕ) (base top : List ℕ) (sizes : ℕ) (store : List ℕ) (number : ℕ) (step : ℤ) (remainder : ℕ) → Type 0
-Graded s p q n b k z r = Did (by s (grade p q n)) b [] (record { number = k; result = graded z r }) b []
+Graded s p q n b k z r = Did (by s (grade p q n)) b [] (gradeTold k z r) b []
 
 -- ---- an operation for a label, on a store of the right size: what the caller's rows leave to be done
 

@@ -1,5 +1,5 @@
 -- An operation that looks at a path and writes a text of what is visible there: refused by its rows, or too long, or written.
-use mathlib.Core.Path.{_≡_, refl, sym, ap, subst, _∙_}
+use mathlib.Core.Path.{_≡_, refl, sym, ap, _∙_}
 use mathlib.Core.List.{List, _++_}
 use Prim.Native.Nat.{ℕ, _≤_, _<_}
 use native.Mathlib.Omega.{arith}
@@ -14,7 +14,7 @@ use Rattle.model.proofs.Rows.{Passes, passes-append, row-applies, rows-stop, ro
 use Rattle.text.specs.Overlay.{laidIn}
 use Rattle.store.specs.Opened.{Opened}
 use Rattle.promise.specs.Did.{Acted}
-use Rattle.promise.proofs.Doing.{refusedTold, acted-refused, acted-done}
+use Rattle.promise.proofs.Doing.{gives-told, refusedTold, acted-refused, acted-done}
 
 -- rows 4 and 7 of the path p, row 10 of the text for the output o; then the text is written and its bytes are counted
 pub record Looks (op : Op) (s : ℕ) (b p o text : List ℕ) : Type 0 where
@@ -29,7 +29,7 @@ module _ {op : Op} {s : ℕ} {b p o text : List ℕ} (looks : Looks op s b p o t
 
   -- a refusal counts nothing
   refused-counts : {j : ℕ} → Acted op s b o (refusedTold j op) b o → Acted op s b o (counted j 0) b o
-  refused-counts {j} a = subst (λ (r : Result). Acted op s b o (record { number = j; result = r }) b o) (looks .counts) a
+  refused-counts {j} a = gives-told (ap (λ (r : Result). record { number = j; result = r }) (sym (looks .counts))) a
 
   pub look-stops : (k ≡ 0 → ⊥) → Acted op s b o (counted k 0) b o
   look-stops h =

@@ -1,6 +1,6 @@
 -- What goes on behind rows 6 and 7 of an element that is there: nothing, or the element's slot.
 use mathlib.Core.Path.{_≡_, refl, ap, subst, _∙_}
-use mathlib.Core.List.{List, []}
+use mathlib.Core.List.{List}
 use Prim.Native.Nat.{ℕ, _<_}
 use lib.ListN.{length}
 use Rattle.model.specs.Path.{Step}
@@ -35,13 +35,13 @@ module _ (s : ℕ) (b : List ℕ) (p : List Step) (r : Owned) (d : Owns r s b p)
     pub own-place : i ≡ placeOf p (ownSet s (openModel b))
     own-place = subst (λ (x : Owned). Owns x s b p) e d .1
 
-    standing : (c : Content) → Stands p c (ownSet s (openModel b))
-    standing c =
-        stands p c (ownSet s (openModel b)) (ascending-sorted rank (ownSet s (openModel b)) (open-valid b s .ascends))
+    standing : Stands p (ownSet s (openModel b))
+    standing =
+        stands p (ownSet s (openModel b)) (ascending-sorted rank (ownSet s (openModel b)) (open-valid b s .ascends))
         (rows-own-live s (openModel b) p own-passes .1)
 
     pub own-used : i < length (ownSet s (openModel b))
-    own-used = rw own-place (standing (record { kind = 0; value = [] }) .within)
+    own-used = rw own-place (standing .within)
 
     -- the store in which the slot has another content is the one in which the path has it
     pub own-replaced : (c : Content) {x : List ℕ} → x ≡ replace s (layout (replacedAt i c (ownSet s (openModel b)))) b
@@ -49,4 +49,4 @@ module _ (s : ℕ) (b : List ℕ) (p : List Step) (r : Owned) (d : Owns r s b p)
     own-replaced c g =
         g
         ∙ ap (λ (k : ℕ). replace s (layout (replacedAt k c (ownSet s (openModel b)))) b) own-place
-        ∙ ap (λ (es : List Element). replace s (layout es) b) (standing c .is)
+        ∙ ap (λ (es : List Element). replace s (layout es) b) (standing .is c)

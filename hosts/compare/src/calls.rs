@@ -6,7 +6,7 @@ use crate::path::Path;
 use crate::value::Value;
 use crate::xml;
 
-/// What a call but a grade answers: 0 or the number of its refusal, and its count.
+/// What every call but a grade answers: 0 or the number of its refusal, and its count.
 #[derive(Clone, Copy, PartialEq, Eq, Debug)]
 pub struct Answer {
     pub number: u32,

@@ -5,7 +5,7 @@ from typing import NamedTuple
 
 
 class Answer(NamedTuple):
-    """What a call but a grade answers: 0 or the number of its refusal, and its count."""
+    """What every call but a grade answers: 0 or the number of its refusal, and its count."""
 
     number: int
     count: int

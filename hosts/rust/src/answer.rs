@@ -2,7 +2,7 @@
 
 use std::fmt;
 
-/// What a call but a grade answers: 0 or the number of its refusal, and its count.
+/// What every call but a grade answers: 0 or the number of its refusal, and its count.
 #[repr(C)]
 #[derive(Clone, Copy, Debug, PartialEq, Eq, Hash)]
 #[must_use]

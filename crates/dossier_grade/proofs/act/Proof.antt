@@ -1,8 +1,8 @@
 -- `dossier_grade::act`: rows 3, 4 and 11, then what is seen at the two paths.
 use borrow.Author.Needs.{needs}
-use Rattle.promise.proofs.Doing.{acted-raw}
+use Rattle.promise.proofs.Doing.{gives-told, acted-raw}
 use Rattle.table.proofs.Walking.{told-yes, lent-opened}
-use Rattle.dossier_grade.proofs.Telling.{asked-paths, grade-stops, some-sizes, grade-acts, gives-told}
+use Rattle.dossier_grade.proofs.Telling.{asked-paths, grade-stops, some-sizes, grade-acts}
 use Rattle.dossier_grade.proofs.act.Statement.{statement}
 use Rattle.dossier_grade.proofs.act.Tie as tie
 
@@ -35,11 +35,10 @@ act-spec =
     (λ c κs. some-sizes _ _ _ (c .before .before .before .asked-row .ensures) (c .before .before .if2 .left))  -- between-requires
     -- returns-3
     (λ c.
-    let high = c .before in
-    let low = high .before in
-    let raw = low .before .before .before .before in
-    let opened = lent-opened (raw .before .before .before .before .pre) (raw .some-raw .ensures) (low .before .before .before .if1 .left) in
-    gives-told (c .between .ensures)
-    (grade-acts opened _ _ _ (low .before .before .asked-row .ensures) (low .before .if2 .left)
-    (low .seen-at .result) (high .seen-at2 .result) (low .seen-at .ensures) (high .seen-at2 .ensures)))
+    let top = c .before in
+    let base = top .before in
+    let raw = base .before .before .before .before in
+    let opened = lent-opened (raw .before .before .before .before .pre) (raw .some-raw .ensures) (base .before .before .before .if1 .left) in
+    grade-acts opened _ _ _ (base .before .before .asked-row .ensures) (base .before .if2 .left)
+    (base .seen-at .ensures) (top .seen-at2 .ensures) (c .between .ensures))
     )

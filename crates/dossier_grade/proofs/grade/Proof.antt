@@ -1,7 +1,7 @@
 -- `dossier_grade::grade`: rows 1 and 2, then the operation for the label.
 use borrow.Author.Needs.{needs}
+use Rattle.promise.proofs.Doing.{gives-told}
 use Rattle.table.proofs.Entering.{entry-refused, entry-lent, entry-did}
-use Rattle.dossier_grade.proofs.Telling.{gives-told}
 use Rattle.dossier_grade.proofs.grade.Statement.{statement}
 use Rattle.dossier_grade.proofs.grade.Tie as tie
 

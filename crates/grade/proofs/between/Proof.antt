@@ -14,11 +14,9 @@ between-spec =
     (λ c κs. search needs)  -- down-requires
     (λ c.
     let start = c .before .before .before .before in
-    between-down (start .fits .base) (start .fits .top) (c .before .before .before .raised .ensures) (c .before .before .raised2 .ensures) (c .before .if1 .taken) (c .down .ensures))
-    -- returns
+    between-down (start .args .base) (start .args .top) (c .before .before .before .raised .ensures) (c .before .before .raised2 .ensures) (c .before .if1 .taken) (c .down .ensures))  -- returns
     (λ c κs. search needs)  -- up-requires
     (λ c.
     let start = c .before .before .before .before in
-    between-up (start .fits .base) (start .fits .top) (c .before .before .before .raised .ensures) (c .before .before .raised2 .ensures) (c .before .if1 .left) (c .up .ensures))
-    -- returns-2
+    between-up (start .args .base) (start .args .top) (c .before .before .before .raised .ensures) (c .before .before .raised2 .ensures) (c .before .if1 .left) (c .up .ensures))  -- returns-2
     )

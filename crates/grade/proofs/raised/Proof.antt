@@ -10,5 +10,5 @@ raised-spec =
     (tie.spec
     (λ c. search needs)  -- add-result
     (λ c. raise-low (c .before .args .bits) (c .if1 .taken))  -- returns
-    (λ c. raise-high (c .before .args .bits) (c .if1 .left))  -- returns-2
+    (λ c. raise-high (c .before .args .bits) (c .before .fits .bits) (c .if1 .left))  -- returns-2
     )

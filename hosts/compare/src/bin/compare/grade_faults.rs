@@ -11,10 +11,12 @@ fn with_grade(call: &Call, store: &mut [u8], output: &mut [u8], change: impl Fn(
 /// Makes a call; where it is a grade that is done, with what lies between the two measures divided in another way.
 fn with_division(call: &Call, store: &mut [u8], output: &mut [u8], divide: fn(i64, i64) -> (i64, i64)) -> Answer {
     with_grade(call, store, output, |answer, _| {
+        if answer.number != 0 {
+            return answer;
+        }
         let n = i64::from(call.n);
-        let (step, remainder) = divide(n * answer.step + i64::from(answer.remainder), n.max(1));
-        let changed = Answer { step, remainder: remainder as u32, ..answer };
-        if answer.number == 0 { changed } else { answer }
+        let (step, remainder) = divide(n * answer.step + i64::from(answer.remainder), n);
+        Answer { step, remainder: remainder as u32, ..answer }
     })
 }
 
