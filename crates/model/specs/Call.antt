@@ -23,7 +23,7 @@ pub data Caller : Type 0 where
 unfoldable pub subjectOf : Caller → ℕ
 subjectOf (subject s) = s
 
--- what is asked: a path is given as bytes, a view with the output's length
+-- what is asked: a path is given as bytes, a view with the output's length, an even grade with the number of sizes
 pub data Op : Type 0 where
   view : (path : List ℕ) (room : ℕ) → Op
   insert : (path : List ℕ) (content : Content) → Op
@@ -75,9 +75,11 @@ pub record Told : Type 0 where
   pub number : ℕ
   pub result : Result
 
+-- a number told with a count
 abbrev pub counted : ℕ → ℕ → Told
 counted k n = record { number = k; result = count n }
 
+-- a number told with a step and a remainder
 abbrev pub gradeTold : ℕ → ℤ → ℕ → Told
 gradeTold k z r = record { number = k; result = graded z r }
 
