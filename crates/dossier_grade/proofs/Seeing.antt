@@ -38,7 +38,7 @@ use Rattle.kind.proofs.Rules.{number-kind}
 use Rattle.text.proofs.Showing.{measure-length}
 use Rattle.dossier_grade.specs.declared.sighting.Sight.{Sight}
 use Rattle.dossier_grade.specs.declared.sighting.Sight.the-variants.{Unseen, Other, Measure}
-use Rattle.dossier_grade.specs.Sights.{sightOf, sightAt, Lodged}
+use Rattle.dossier_grade.specs.Sights.{sightOf, sightAt, PathPartition}
 
 -- a path that is not in view, and one in view with its content
 unseen-at : (s : ℕ) (b : List ℕ) (p : List Step) → T (not (inView s (openModel b) p)) → Unseen ≡ sightAt s b p
@@ -89,12 +89,12 @@ module _ {b : List ℕ} {s : ℕ} (o : Opened b s) (p : List ℕ) (good : T (goo
     pub label-seen : T (dominates s (getD p (length p - 1) 0))
     label-seen = told-yes e (not-false r yes)
 
-    pub lodged : {x : List ℕ} → (x ≡ partition (getD p (length p - 1) 0) b) × (length x ≡ partitionSize) → Lodged b s p x
-    lodged g = record { opened = o; path = good; label = label-seen; is = g .0; size = g .1 }
+    pub path-partition : {x : List ℕ} → (x ≡ partition (getD p (length p - 1) 0) b) × (length x ≡ partitionSize) → PathPartition b s p x
+    path-partition g = record { opened = o; path = good; label = label-seen; is = g .0; size = g .1 }
 
-module _ {b : List ℕ} {s : ℕ} (p : List ℕ) {x : List ℕ} (l : Lodged b s p x) where
-  pub lodged-formed : Formed x
-  lodged-formed = record { label = getD p (length p - 1) 0; is = rw (l .is) (opened-formed (l .opened) (getD p (length p - 1) 0) (l .label)) }
+module _ {b : List ℕ} {s : ℕ} (p : List ℕ) {x : List ℕ} (l : PathPartition b s p x) where
+  pub path-partition-formed : Formed x
+  path-partition-formed = record { label = getD p (length p - 1) 0; is = rw (l .is) (opened-formed (l .opened) (getD p (length p - 1) 0) (l .label)) }
 
   -- what is visible at the path is what stands there in the partition
   there : contentAt (visible s (openModel b)) (stepsOf p) ≡ contentAt (readPartition x) (stepsOf p)
@@ -108,7 +108,7 @@ module _ {b : List ℕ} {s : ℕ} (p : List ℕ) {x : List ℕ} (l : Lodged b s 
     pub sees-found : found ≡ true → {z : List ℕ} → (z ≡ slotAt x at) × (length z ≡ slotSize) → {y : Sight} → y ≡ sightOf true (some (readContent z))
         → y ≡ sightAt s b (stepsOf p)
     sees-found there-is {z} g e =
-        let c : contentAt (visible s (openModel b)) (stepsOf p) ≡ some (readContent z) = there ∙ found-content lodged-formed h there-is g in
+        let c : contentAt (visible s (openModel b)) (stepsOf p) ≡ some (readContent z) = there ∙ found-content path-partition-formed h there-is g in
         let has : T (contains (visible s (openModel b)) (stepsOf p)) =
         subst T (ap isSome (sym c) ∙ content-some (visible s (openModel b)) (stepsOf p)) tt in
         e ∙ content-at s b (stepsOf p) (seen-in-view s (openModel b) (stepsOf p) has) c

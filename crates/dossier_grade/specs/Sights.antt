@@ -33,7 +33,7 @@ abbrev pub sightAt : ℕ → List ℕ → List Step → Sight
 sightAt s b p = sightOf (inView s (openModel b) p) (contentAt (visible s (openModel b)) p)
 
 -- x is the partition, on the store b, of the label of the path p, which is its last byte and which the subject s dominates
-pub record Lodged (b : List ℕ) (s : ℕ) (p x : List ℕ) : Type 0 where
+pub record PathPartition (b : List ℕ) (s : ℕ) (p x : List ℕ) : Type 0 where
   pub opened : Opened b s
   pub path : T (goodPath p)
   pub label : T (dominates s (getD p (length p - 1) 0))

@@ -91,11 +91,19 @@ fn between(base: Sight, top: Sight, n: u32) -> Answer
             Sight::Other => refused(12),
             Sight::Measure(_) => refused(12),
         },
-        Sight::Measure(a) => match top {
-            Sight::Unseen => refused(7),
-            Sight::Other => refused(12),
-            Sight::Measure(b) => evenly(a, b, n),
-        },
+        Sight::Measure(measure) => from_measure(measure, top, n),
+    }
+}
+
+// The same behind a base that is a measure, given by its 32 bits.
+fn from_measure(base: u32, top: Sight, n: u32) -> Answer
+    requires { ⌜ 0 < n ⌝ }
+    ensures { λ r. ⌜ gradeTold (r .number) (r .step) (r .remainder) ≡ toldOf (Measure base) top n ⌝ }
+{
+    match top {
+        Sight::Unseen => refused(7),
+        Sight::Other => refused(12),
+        Sight::Measure(measure) => evenly(base, measure, n),
     }
 }
 

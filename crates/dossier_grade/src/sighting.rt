@@ -9,7 +9,7 @@ ghost use Rattle.model.specs.Value.{storable};
 ghost use Rattle.model.specs.Slot.{slotSize, readContent};
 ghost use Rattle.model.specs.Rows.{viewPath};
 ghost use Rattle.store.specs.Opened.{Opened};
-ghost use Rattle.dossier_grade.specs.Sights.{sightOf, sightAt, Lodged};
+ghost use Rattle.dossier_grade.specs.Sights.{sightOf, sightAt, PathPartition};
 
 // Nothing, something that is no live measure, or a live measure by its 32 bits.
 pub enum Sight {
@@ -40,7 +40,7 @@ pub fn seen_at(store: &[u8], subject: u8, path: &[u8]) -> Sight
 
 // What is seen at a path whose label's partition is given: its own element stands there, and one search tells it.
 fn seen_in(store: &[u8], subject: u8, path: &[u8], part: &[u8]) -> Sight
-    requires { ⌜ Lodged (now store) subject (now path) (now part) ⌝ }
+    requires { ⌜ PathPartition (now store) subject (now path) (now part) ⌝ }
     ensures { λ r. ⌜ r ≡ sightAt subject (now (store .entry)) (stepsOf (now (path .entry))) ⌝ }
 {
     let f = partition::find(part, path);

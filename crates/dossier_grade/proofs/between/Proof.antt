@@ -1,4 +1,4 @@
--- `dossier_grade::between`: by the two sights.
+-- `dossier_grade::between`: by the base's sight, and behind a base that is no measure by the top's.
 use mathlib.Core.Path.{refl}
 use borrow.Author.Needs.{needs}
 use Rattle.dossier_grade.proofs.Telling.{told-by}
@@ -19,17 +19,10 @@ between-spec =
     (λ c. search needs)  -- enum-told-5
     (λ c κs. search needs)  -- refused-requires-4
     (λ c. search needs)  -- enum-known-base
-    (λ c. search needs)  -- enum-told-6
-    (λ c κs. search needs)  -- refused-requires-5
-    (λ c. search needs)  -- enum-told-7
-    (λ c κs. search needs)  -- refused-requires-6
-    (λ c. search needs)  -- enum-known-top
-    (λ c κs. search needs)  -- evenly-requires
+    (λ c κs. search needs)  -- from-measure-requires
     (λ c. told-by _ (c .before .before .before .args .top) _ (c .before .enum-told .given .1) refl (c .refused .ensures))  -- returns
     (λ c. told-by _ _ _ (c .before .before .before .enum-told2 .given .1) (c .before .enum-told3 .given .1) (c .refused2 .ensures))  -- returns-2
     (λ c. told-by _ _ _ (c .before .before .before .enum-told2 .given .1) (c .before .enum-told4 .given .1) (c .refused3 .ensures))  -- returns-3
     (λ c. told-by _ _ _ (c .before .before .before .enum-told2 .given .1) (c .before .enum-told5 .given .1) (c .refused4 .ensures))  -- returns-4
-    (λ c. told-by _ _ _ (c .before .before .before .before .base .given .1) (c .before .enum-told6 .given .1) (c .refused5 .ensures))  -- returns-5
-    (λ c. told-by _ _ _ (c .before .before .before .before .base .given .1) (c .before .enum-told7 .given .1) (c .refused6 .ensures))  -- returns-6
-    (λ c. told-by _ _ _ (c .before .before .before .before .before .base .given .1) (c .before .before .top .given .1) (c .evenly .ensures))  -- returns-7
+    (λ c. told-by _ (c .before .before .before .before .args .top) _ (c .before .before .base .given .1) refl (c .from-measure .ensures))  -- returns-5
     )

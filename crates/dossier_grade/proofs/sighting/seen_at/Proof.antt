@@ -1,6 +1,6 @@
 -- `dossier_grade::sighting::seen_at`: the root, a label that is not dominated, or what is in the label's partition.
 use borrow.Author.Needs.{needs}
-use Rattle.dossier_grade.proofs.Seeing.{sees-root, other-good, sees-none, label-seen, lodged}
+use Rattle.dossier_grade.proofs.Seeing.{sees-root, other-good, sees-none, label-seen, path-partition}
 use Rattle.dossier_grade.proofs.sighting.seen_at.Statement.{statement}
 use Rattle.dossier_grade.proofs.sighting.seen_at.Tie as tie
 
@@ -25,6 +25,6 @@ seen-at-spec =
     (λ c κs.
     let start = c .before .before .before .before .before .before .before in
     let good = other-good _ (start .pre .1) (c .before .before .before .before .if1 .left) in
-    lodged (start .pre .0) _ good (c .before .before .dominates .ensures) (c .before .if2 .left) (c .partition-of .ensures))
+    path-partition (start .pre .0) _ good (c .before .before .dominates .ensures) (c .before .if2 .left) (c .partition-of .ensures))
     (λ c. c .seen-in .ensures)  -- returns-3
     )
