@@ -1,6 +1,6 @@
 -- Tests: their parts, their cases, and what a chosen branch is.
-use mathlib.Core.Path.{_≡_, refl}
-use mathlib.Core.Bool.{Bool, true, false, not, cond, _&&_, _||_}
+use mathlib.Core.Path.{_≡_, refl, sym}
+use mathlib.Core.Bool.{Bool, true, false, not, cond, _&&_, _||_, and-false}
 use lib.Dec.{T}
 
 pub and-l : (a b : Bool) → T (a && b) → T a
@@ -14,6 +14,12 @@ and-r false b t = absurd t
 pub both : (a b : Bool) → T a → T b → T (a && b)
 both true b s t = t
 both false b s t = absurd s
+
+-- pairs of tests taken the other way
+pub crossed : (a b c d : Bool) → ((a && b) && (c && d)) ≡ ((a && c) && (b && d))
+crossed false b c d = refl
+crossed true true c d = refl
+crossed true false c d = sym (and-false c)
 
 pub or-l : (a b : Bool) → T a → T (a || b)
 or-l true b t = tt

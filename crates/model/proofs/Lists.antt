@@ -1,6 +1,6 @@
 -- Parts of lists, lists of a fixed width, zeros and ranges.
 use mathlib.Core.Path.{_≡_, refl, sym, ap, ap₂, _∙_}
-use mathlib.Core.Bool.{Bool, true}
+use mathlib.Core.Bool.{Bool, true, _&&_, and-assoc}
 use mathlib.Core.List.{List, [], _∷_, _++_, append-assoc}
 use Prim.Native.Nat.{ℕ, zero, suc, _+_, _-_, _≤_, _<_}
 use native.Mathlib.Nat.{sub-zero, zero-sub, suc-sub-suc}
@@ -41,6 +41,11 @@ module _ {A : Type 0} (p : A → Bool) where
   pub all-append : (l m : List A) → T (all p l) → T (all p m) → T (all p (l ++ m))
   all-append [] m s t = t
   all-append (x ∷ l) m s t = both (p x) (all p (l ++ m)) (and-l (p x) (all p l) s) (all-append l m (and-r (p x) (all p l) s) t)
+
+  -- a test of two lists joined
+  pub all-both : (l m : List A) → all p (l ++ m) ≡ (all p l && all p m)
+  all-both [] m = refl
+  all-both (x ∷ l) m = ap (λ (t : Bool). p x && t) (all-both l m) ∙ sym (and-assoc (p x) (all p l) (all p m))
 
   pub all-replicate : (n : ℕ) (x : A) → T (p x) → T (all p (replicate n x))
   all-replicate zero x t = tt
@@ -115,6 +120,10 @@ between-join a c e l h k =
     ap (λ (r : List ℕ). between a c l ++ take (e - c) r) (ap (λ (n : ℕ). drop n l) (sym p) ∙ sym (drop-drop (c - a) a l))
     ∙ sym (take-add (c - a) (e - c) (drop a l))
     ∙ ap (λ (n : ℕ). take n (drop a l)) q
+
+-- a test of a part, in two parts
+pub all-parts : (p : ℕ → Bool) (a c e : ℕ) (l : List ℕ) → a ≤ c → c ≤ e → all p (between a e l) ≡ (all p (between a c l) && all p (between c e l))
+all-parts p a c e l h k = ap (all p) (sym (between-join a c e l h k)) ∙ all-both p (between a c l) (between c e l)
 
 pub between-all : (e : ℕ) (l : List ℕ) → length l ≡ e → between 0 e l ≡ l
 between-all e l h = take-all (e - 0) l (omega arith)

@@ -1,4 +1,4 @@
 -- The laws of the loops.
 pub mod Tests
-pub mod Quarters
+pub mod Joining
 pub mod Shifts

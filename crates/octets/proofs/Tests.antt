@@ -1,42 +1,57 @@
 -- A test of every member of a list, one member at a time; what a slice holds; when or-ed numbers are 0.
-use mathlib.Core.Path.{_≡_, refl, sym, ap, _∙_}
+use mathlib.Core.Path.{_≡_, refl, sym, ap, ap₂, _∙_}
 use mathlib.Core.Bool.{Bool, true, _&&_, and-true, and-assoc}
-use mathlib.Core.List.{List, [], _∷_}
+use mathlib.Core.List.{List, [], _∷_, _++_}
 use Prim.Native.Nat.{ℕ, zero, suc, _+_, _-_, _≤_, _<_}
 use native.Mathlib.Numerals.{add-one}
 use native.Mathlib.Omega.{arith}
-use lib.ListN.{length, drop, getD, length-drop, drop-of-length-le}
-use lib.Seq.{drop-cons, getD-drop}
+use lib.ListN.{length, take, drop, getD, length-drop, drop-of-length-le, take-append-drop}
+use lib.Seq.{drop-drop, getD-drop}
 use lib.Bits.{bitOr, or-zero-l, or-add-and, and-le-r}
 use lib.Dec.{T, eqb}
 use mir.Syntax.{w8}
 use mir.Val.{Fits}
 use mir.Facts.{yes-ltb, fits-lt-pow}
 use borrow.Author.Tests.{ne-eqb}
-use Rattle.model.specs.Lists.{all, isByte}
+use Rattle.model.specs.Lists.{all, between, isByte}
 use Rattle.model.proofs.Bools.{both}
-use Rattle.model.proofs.Lists.{Bytes}
+use Rattle.model.proofs.Lists.{Bytes, all-both, between-one}
 
 -- t is the answer for the first i members
 pub record Tested (p : ℕ → Bool) (s : List ℕ) (t : Bool) (i : ℕ) : Type 0 where
   pub within : i ≤ length s
   pub same : all p s ≡ (t && all p (drop i s))
 
+-- what stands from place i on: k members, then the others
+drop-part : (i k : ℕ) (s : List ℕ) → drop i s ≡ between i (i + k) s ++ drop (i + k) s
+drop-part i k s =
+    let n : i + k - i ≡ k = omega arith in
+    sym (take-append-drop k (drop i s))
+    ∙ ap₂ (λ (l m : List ℕ). l ++ m) (ap (λ (j : ℕ). take j (drop i s)) (sym n)) (drop-drop k i s)
+
 -- so it is before the first member
 pub test-start : (p : ℕ → Bool) (s : List ℕ) → Tested p s true 0
 test-start p s = record { within = omega arith; same = refl }
 
 module _ {p : ℕ → Bool} {s : List ℕ} {t : Bool} {i : ℕ} (inv : Tested p s t i) where
+  -- and with the k members from place i on
+  pub test-part : (k : ℕ) → i + k ≤ length s → {u : Bool} → u ≡ (t && all p (between i (i + k) s)) → Tested p s u (i + k)
+  test-part k h e =
+      let part : List ℕ = between i (i + k) s in
+      let d : drop i s ≡ part ++ drop (i + k) s = drop-part i k s in
+      record {
+        within = h;
+        same =
+            inv .same ∙ ap (λ (l : List ℕ). t && all p l) d ∙ ap (λ (b : Bool). t && b) (all-both p part (drop (i + k) s))
+            ∙ sym (and-assoc t (all p part) (all p (drop (i + k) s)))
+            ∙ ap (λ (b : Bool). b && all p (drop (i + k) s)) (sym e);
+      }
+
   -- and with the member at place i
   pub test-next : i < length s → {u : Bool} → u ≡ (t && p (getD s i 0)) → Tested p s u (i + 1)
   test-next h e =
-      let d : drop i s ≡ getD s i 0 ∷ drop (i + 1) s = rw (add-one i) (drop-cons s i 0 h) in
-      record {
-        within = omega arith;
-        same =
-            inv .same ∙ ap (λ (l : List ℕ). t && all p l) d ∙ sym (and-assoc t (p (getD s i 0)) (all p (drop (i + 1) s)))
-            ∙ ap (λ (b : Bool). b && all p (drop (i + 1) s)) (sym e);
-      }
+      let one : between i (i + 1) s ≡ getD s i 0 ∷ [] = rw (add-one i) (between-one i s h) in
+      test-part 1 (omega arith) (e ∙ ap (λ (b : Bool). t && b) (sym (ap (all p) one ∙ and-true (p (getD s i 0)))))
 
   -- after the last member it is the answer
   pub test-end : length s ≤ i → t ≡ all p s

@@ -1,6 +1,8 @@
 // Small loops on byte slices.
+mod eights;
+
+pub use eights::slots_zero;
 ghost use mathlib.Core.Path.{_≡_};
-ghost use mathlib.Core.Bool.{_&&_};
 ghost use mathlib.Core.List.{_++_};
 ghost use Prim.Native.Nat.{_-_, _≤_, _<_};
 ghost use lib.ListN.{length, take, drop, replicate};
@@ -35,32 +37,11 @@ pub fn tail_zero(s: &[u8], from: usize) -> bool
     acc == 0
 }
 
-// Whether four slices of one length are all 0. One loop over the four, so that it reads four vectors a turn.
-fn four_zero(a: &[u8], b: &[u8], c: &[u8], d: &[u8]) -> bool
-    requires { ⌜ (length (now b) ≡ length (now a)) × (length (now c) ≡ length (now a)) × (length (now d) ≡ length (now a)) ⌝ }
-    ensures { λ r. ⌜ r ≡ ((allZero (now (a .entry)) && allZero (now (b .entry))) && (allZero (now (c .entry)) && allZero (now (d .entry)))) ⌝ }
-{
-    let mut acc: u8 = 0;
-    let mut i: usize = 0;
-    while i < a.len() {
-        acc = acc | ((a[i] | b[i]) | (c[i] | d[i]));
-        i += 1;
-    }
-    acc == 0
-}
-
-// Whether every byte is 0: the four quarters, then the bytes behind them, at most three.
+// Whether every byte is 0.
 pub fn is_zero(s: &[u8]) -> bool
     ensures { λ r. ⌜ r ≡ allZero (now (s .entry)) ⌝ }
 {
-    let a = s.len() / 4;
-    let b = 2 * a;
-    let c = 3 * a;
-    let d = 4 * a;
-    if !four_zero(&s[0..a], &s[a..b], &s[b..c], &s[c..d]) {
-        return false;
-    }
-    tail_zero(&s[d..], 0)
+    tail_zero(s, 0)
 }
 
 // Moves the bytes up by k places: the first k stay, the last k are lost.

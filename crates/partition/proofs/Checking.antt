@@ -15,7 +15,7 @@ use Rattle.model.specs.Element.{rank, validElement, closed}
 use Rattle.model.specs.Sets.{ascending}
 use Rattle.model.specs.Slot.{slotSize, depth, stepAt, readPath, readSlot, unusedZero}
 use Rattle.model.specs.Partition.{slotsAt, partitionSize, count, slotStart, slotAt, slots, readPartition, wellFormed}
-use Rattle.model.proofs.Bools.{and-l, and-r, both, is-true, is-false, same-test}
+use Rattle.model.proofs.Bools.{and-l, and-r, both, crossed, is-true, is-false, same-test}
 use Rattle.model.proofs.Partitions.{WellFormed, well-formed, yes-well-formed}
 use Rattle.model.proofs.Slots.{Fits, valid-fits}
 use Rattle.model.proofs.Walks.{rest, rest-more, rest-end}
@@ -25,7 +25,6 @@ use Rattle.path.proofs.Common.{common-first, common-parent}
 use Rattle.slot.specs.Slot.{Readable}
 use Rattle.slot_valid.specs.Valid.{validSlot}
 use Rattle.slot.proofs.Reading.{length-path}
-use Rattle.octets.proofs.Quarters.{crossed}
 use Rattle.partition.specs.Linked.{mayFollow, linked, goodSlot, goodSlots, pathBefore}
 use Rattle.partition.proofs.Linking.{linked-is}
 

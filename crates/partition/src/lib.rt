@@ -38,7 +38,7 @@ fn spare_zero(part: &[u8], c: usize) -> bool
     ensures { λ r. ⌜ r ≡ allZero (between (slotStart c) partitionSize (now (part .entry))) ⌝ }
 {
     let at = 4 + 40 * c;
-    octets::is_zero(&part[at..1284])
+    octets::slots_zero(&part[at..1284])
 }
 
 // Whether the parent of a slot's path ends in label n.

@@ -8,14 +8,14 @@ use borrow.Author.Tests.{not-true, not-false, lt-ltb, le-ltb}
 use lib.ListN.{length, drop, getD}
 use lib.Seq.{drop-at}
 use lib.Dec.{T, eqb, ltb}
-use mir.Facts.{eqb-yes, yes-eqb, ltb-yes, ltb-no}
+use mir.Facts.{ltb-yes, ltb-no}
 use Rattle.model.specs.Lists.{all, range, allZero, between}
 use Rattle.model.specs.Path.{Step, sameStep}
 use Rattle.model.specs.Slot.{namesAt, labelsAt, kindAt, valueAt, spareAt, slotSize, depth, stepAt, valueLength, readPath}
-use Rattle.model.proofs.Bools.{and-l, and-r, both, decide, same-test}
-use Rattle.model.proofs.Lists.{length-between, between-join, between-none, between-cons}
+use Rattle.model.proofs.Bools.{crossed, decide}
+use Rattle.model.proofs.Lists.{length-between, all-parts, between-join, between-none, between-cons}
 use Rattle.model.proofs.Walks.{rest, rest-more, rest-end}
-use Rattle.octets.proofs.Quarters.{crossed, zero-parts}
+use Rattle.octets.proofs.Joining.{join-zero}
 use Rattle.path.specs.Steps.{mayFollow, allFollow, keyWord, KeyOf}
 use Rattle.path.proofs.Steps.{word-same}
 use Rattle.slot.specs.Slot.{Readable}
@@ -89,20 +89,6 @@ module _ {g : ℕ → Step} {w : Bool} {d l i : ℕ} (inv : Standing g w d l i) 
 zero-head : (a e n : ℕ) (b : List ℕ) → a < e → e ≤ length b → suc a ≡ n → allZero (between a e b) ≡ (eqb (getD b a 0) 0 && allZero (between n e b))
 zero-head a e n b h k q = ap allZero (between-cons a e b h k) ∙ ap (λ (m : ℕ). eqb (getD b a 0) 0 && allZero (between m e b)) q
 
-zero-name : (lo hi : ℕ) → (eqb lo 0 && eqb hi 0) ≡ eqb (lo + 256 * hi) 0
-zero-name lo hi =
-    same-test (eqb lo 0 && eqb hi 0) (eqb (lo + 256 * hi) 0)
-    (λ (t : T (eqb lo 0 && eqb hi 0)).
-    let x : lo ≡ 0 = eqb-yes (and-l (eqb lo 0) (eqb hi 0) t) in
-    let y : hi ≡ 0 = eqb-yes (and-r (eqb lo 0) (eqb hi 0) t) in
-    let z : lo + 256 * hi ≡ 0 = omega arith in
-    yes-eqb z)
-    (λ (t : T (eqb (lo + 256 * hi) 0)).
-    let z : lo + 256 * hi ≡ 0 = eqb-yes t in
-    let x : lo ≡ 0 = omega arith in
-    let y : hi ≡ 0 = omega arith in
-    both (eqb lo 0) (eqb hi 0) (yes-eqb x) (yes-eqb y))
-
 module _ (b : List ℕ) (size : length b ≡ slotSize) where
   -- the names from place i on are zero, and the labels
   abbrev names : ℕ → Bool
@@ -118,7 +104,7 @@ module _ (b : List ℕ) (size : length b ≡ slotSize) where
       zero-head (namesAt + 2 * i) labelsAt (namesAt + 2 * i + 1) b (omega arith) (omega arith) (omega arith)
       ∙ ap (λ (t : Bool). eqb lo 0 && t) (zero-head (namesAt + 2 * i + 1) labelsAt (namesAt + 2 * suc i) b (omega arith) (omega arith) (omega arith))
       ∙ sym (and-assoc (eqb lo 0) (eqb hi 0) (names (suc i)))
-      ∙ ap (λ (t : Bool). t && names (suc i)) (zero-name lo hi)
+      ∙ ap (λ (t : Bool). t && names (suc i)) (sym (join-zero lo hi))
 
   label-head : (i : ℕ) → i < 6 → labels i ≡ (eqb (stepAt b i .label) 0 && labels (suc i))
   label-head i h = zero-head (labelsAt + i) kindAt (labelsAt + suc i) b (omega arith) (omega arith) (omega arith)
@@ -155,5 +141,5 @@ value-rest b size {n} e h f =
     f
     ∙ ap (λ (x : List ℕ). allZero (drop n x)) (sym (between-join valueAt (valueAt + n) slotSize b (omega arith) (omega arith)))
     ∙ ap allZero (drop-at (between valueAt (valueAt + n) b) (between (valueAt + n) slotSize b) n l)
-    ∙ zero-parts (valueAt + n) spareAt slotSize b (omega arith) (omega arith)
+    ∙ all-parts _ (valueAt + n) spareAt slotSize b (omega arith) (omega arith)
     ∙ rw (e .0)

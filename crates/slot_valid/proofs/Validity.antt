@@ -12,9 +12,8 @@ use Rattle.model.specs.Path.{endsIn, validPath}
 use Rattle.model.specs.Value.{allowed, storable}
 use Rattle.model.specs.Element.{validElement}
 use Rattle.model.specs.Slot.{valueAt, spareAt, slotSize, depth, stepAt, valueLength, readPath, readContent, readSlot, unusedZero}
-use Rattle.model.proofs.Bools.{and-l, decide, is-true, is-false}
+use Rattle.model.proofs.Bools.{and-l, crossed, decide, is-true, is-false}
 use Rattle.model.proofs.Slots.{allowed-length}
-use Rattle.octets.proofs.Quarters.{crossed}
 use Rattle.path.specs.Steps.{allFollow}
 use Rattle.path.proofs.Steps.{follow-all, ends-range}
 use Rattle.slot.proofs.Reading.{length-path}
