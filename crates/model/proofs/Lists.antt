@@ -38,14 +38,13 @@ module _ {A : Type 0} (p : A → Bool) where
   all-drop (suc k) [] t = tt
   all-drop (suc k) (x ∷ l) t = all-drop k l (and-r (p x) (all p l) t)
 
-  pub all-append : (l m : List A) → T (all p l) → T (all p m) → T (all p (l ++ m))
-  all-append [] m s t = t
-  all-append (x ∷ l) m s t = both (p x) (all p (l ++ m)) (and-l (p x) (all p l) s) (all-append l m (and-r (p x) (all p l) s) t)
-
   -- a test of two lists joined
   pub all-both : (l m : List A) → all p (l ++ m) ≡ (all p l && all p m)
   all-both [] m = refl
   all-both (x ∷ l) m = ap (λ (t : Bool). p x && t) (all-both l m) ∙ sym (and-assoc (p x) (all p l) (all p m))
+
+  pub all-append : (l m : List A) → T (all p l) → T (all p m) → T (all p (l ++ m))
+  all-append l m s t = rw (all-both l m) (both (all p l) (all p m) s t)
 
   pub all-replicate : (n : ℕ) (x : A) → T (p x) → T (all p (replicate n x))
   all-replicate zero x t = tt

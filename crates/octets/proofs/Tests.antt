@@ -1,4 +1,4 @@
--- A test of every member of a list, one member at a time; what a slice holds; when or-ed numbers are 0.
+-- A test of every member of a list, one or several at a time; what a slice holds; when or-ed numbers are 0.
 use mathlib.Core.Path.{_≡_, refl, sym, ap, ap₂, _∙_}
 use mathlib.Core.Bool.{Bool, true, _&&_, and-true, and-assoc}
 use mathlib.Core.List.{List, [], _∷_, _++_}

@@ -29,7 +29,7 @@ fn eight_at(s: &[u8], at: usize) -> u64
     four_at(s, at) + 4294967296 * four_at(s, at + 4)
 }
 
-// Whether every byte of whole slots is 0. What is not 0 is or-ed up and looked at in the end: a loop without an exit is read by vectors.
+// Whether every byte of whole slots is 0, eight bytes a step. What is not 0 is or-ed together: without an early exit the compiler makes vectors of the loop.
 pub fn slots_zero(s: &[u8]) -> bool
     requires { ⌜ length (now s) % slotSize ≡ 0 ⌝ }
     ensures { λ r. ⌜ r ≡ allZero (now (s .entry)) ⌝ }
