@@ -1350,6 +1350,28 @@ def empty_changed():
     view(0, "/", 100, 0, 9, ["VIEW→0→0"])
 
 
+@case("3: each byte of an unused slot, and bytes whose sum is 256")
+def unused_slot():
+    base = PARTITION * 16
+    put(16, *((f"{n}:16", G) for n in range(1, 32)))
+    for i in range(40):
+        corrupt(base + 1244 + i, bytes([1 << i % 8]))
+        view(16, "/", 100, 3)
+        corrupt(base + 1244 + i, b"\0")
+    for i in range(0, 40, 8):
+        for raw in (b"\200\0\0\0\0\0\0\200", b"\0\0\0\1\377\0\0\0", b"\40" * 8):
+            corrupt(base + 1244 + i, raw)
+            view(16, "/", 100, 3)
+            corrupt(base + 1244 + i, bytes(8))
+    insert(16, "32:16", G, 0)
+    insert(16, "33:16", G, 9)
+    then("of 32 elements the last is not counted")
+    corrupt(base, b"\37")
+    view(16, "/", 100, 3)
+    corrupt(base + 1244, bytes(40))
+    view_lines(16, "/", 31)
+
+
 @case("slots of six steps, by kind and value")
 def six_steps():
     five = "1:0/2:0/3:1/4:1/5:5"
