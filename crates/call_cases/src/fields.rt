@@ -11,25 +11,18 @@ pub fn length(x: u8) -> usize
     octets::index(x)
 }
 
-// The word of four bytes, lowest first.
-fn word(a: u8, b: u8, c: u8, d: u8) -> u32
-    ensures { λ r. ⌜ r ≡ a + 256 * b + 65536 * c + 16777216 * d ⌝ }
-{
-    octets::wide(a) + 256 * octets::wide(b) + 65536 * octets::wide(c) + 16777216 * octets::wide(d)
-}
-
 // The subject of a call.
 pub fn subject(head: &[u8; 16]) -> u32
     ensures { λ r. ⌜ r ≡ getD (now (head .entry)) 8 0 + 256 * getD (now (head .entry)) 9 0 + 65536 * getD (now (head .entry)) 10 0 + 16777216 * getD (now (head .entry)) 11 0 ⌝ }
 {
-    word(head[8], head[9], head[10], head[11])
+    octets::word(head[8], head[9], head[10], head[11])
 }
 
 // The last word: a kind or a number of sizes.
 pub fn third(head: &[u8; 16]) -> u32
     ensures { λ r. ⌜ r ≡ getD (now (head .entry)) 12 0 + 256 * getD (now (head .entry)) 13 0 + 65536 * getD (now (head .entry)) 14 0 + 16777216 * getD (now (head .entry)) 15 0 ⌝ }
 {
-    word(head[12], head[13], head[14], head[15])
+    octets::word(head[12], head[13], head[14], head[15])
 }
 
 // The smaller of a word and a bound.
@@ -61,5 +54,5 @@ pub fn output_length(head: &[u8; 16], most: usize) -> usize
 pub fn store_length(head: &[u8; 16], most: usize) -> usize
     ensures { λ r. ⌜ r ≤ most ⌝ }
 {
-    at_most(word(head[4], head[5], head[6], head[7]), most)
+    at_most(octets::word(head[4], head[5], head[6], head[7]), most)
 }

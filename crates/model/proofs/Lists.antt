@@ -5,7 +5,7 @@ use mathlib.Core.List.{List, [], _∷_, _++_, append-assoc}
 use Prim.Native.Nat.{ℕ, zero, suc, _+_, _-_, _≤_, _<_}
 use native.Mathlib.Nat.{sub-zero, zero-sub, suc-sub-suc}
 use native.Mathlib.Omega.{arith}
-use lib.ListN.{length, take, drop, getD, replicate, length-append, length-take, length-drop, length-replicate}
+use lib.ListN.{length, take, drop, getD, replicate, take-append-drop, length-append, length-take, length-drop, length-replicate}
 use lib.Seq.{take-append-add, take-add, take-all, take-at, drop-at, drop-drop, drop-cons, length-take-le}
 use lib.Dec.{T, eqb, eqb-refl}
 use mir.Facts.{eqb-yes, yes-ltb}
@@ -119,6 +119,13 @@ between-join a c e l h k =
     ap (λ (r : List ℕ). between a c l ++ take (e - c) r) (ap (λ (n : ℕ). drop n l) (sym p) ∙ sym (drop-drop (c - a) a l))
     ∙ sym (take-add (c - a) (e - c) (drop a l))
     ∙ ap (λ (n : ℕ). take n (drop a l)) q
+
+-- what stands from place i on: k members, then the others
+pub drop-part : (i k : ℕ) (s : List ℕ) → drop i s ≡ between i (i + k) s ++ drop (i + k) s
+drop-part i k s =
+    let n : i + k - i ≡ k = omega arith in
+    sym (take-append-drop k (drop i s))
+    ∙ ap₂ (λ (l m : List ℕ). l ++ m) (ap (λ (j : ℕ). take j (drop i s)) (sym n)) (drop-drop k i s)
 
 -- a test of a part, in two parts
 pub all-parts : (p : ℕ → Bool) (a c e : ℕ) (l : List ℕ) → a ≤ c → c ≤ e → all p (between a e l) ≡ (all p (between a c l) && all p (between c e l))

@@ -1,14 +1,14 @@
 -- Bytes joined to one number: when it is 0, the number of eight bytes, and a zero test that takes eight bytes a step.
-use mathlib.Core.Path.{_≡_, refl, sym, ap, _∙_}
-use mathlib.Core.Bool.{Bool, _&&_, and-true}
+use mathlib.Core.Path.{_≡_, refl, sym, ap, ap₂, _∙_}
+use mathlib.Core.Bool.{Bool, _&&_}
 use mathlib.Core.List.{List, [], _∷_}
-use Prim.Native.Nat.{ℕ, suc, _+_, _*_, _%_, _≤_, _<_}
+use Prim.Native.Nat.{ℕ, zero, suc, _+_, _*_, _%_, _≤_, _<_}
 use native.Mathlib.Omega.{arith}
 use lib.ListN.{length, getD}
-use lib.Bits.{bitOr}
+use lib.Bits.{bitOr, or-zero-r}
 use lib.Dec.{T, eqb}
 use mir.Facts.{eqb-yes, yes-eqb}
-use Rattle.model.specs.Lists.{allZero, between}
+use Rattle.model.specs.Lists.{range, allZero, between}
 use Rattle.model.specs.Slot.{slotSize}
 use Rattle.model.proofs.Bools.{and-l, and-r, both, same-test}
 use Rattle.model.proofs.Lists.{between-none, between-cons}
@@ -37,43 +37,32 @@ pub number-zero : (l : List ℕ) → eqb (numberOf l) 0 ≡ allZero l
 number-zero [] = refl
 number-zero (x ∷ l) = join-zero x (numberOf l) ∙ ap (λ (t : Bool). eqb x 0 && t) (number-zero l)
 
--- ---- four bytes and eight
+-- ---- eight bytes
 
--- one byte and those behind it
-number-part : (s : List ℕ) (i j e : ℕ) → i < e → e ≤ length s → suc i ≡ j → numberOf (between i e s) ≡ getD s i 0 + 256 * numberOf (between j e s)
-number-part s i j e h k q = ap numberOf (between-cons i e s h k) ∙ ap (λ (m : ℕ). getD s i 0 + 256 * numberOf (between m e s)) q
+-- the members of a part, one by one
+between-range : (s : List ℕ) (at i k : ℕ) → at + i + k ≤ length s → between (at + i) (at + i + k) s ≡ range (λ j. getD s (at + j) 0) i k
+between-range s at i zero h = between-none (at + i) (at + i + 0) s (omega arith)
+between-range s at i (suc k) h =
+    let n : suc (at + i) ≡ at + suc i = omega arith in
+    let e : at + i + suc k ≡ at + suc i + k = omega arith in
+    between-cons (at + i) (at + i + suc k) s (omega arith) h
+    ∙ ap₂ (λ (a b : ℕ). getD s (at + i) 0 ∷ between a b s) n e
+    ∙ ap (λ (l : List ℕ). getD s (at + i) 0 ∷ l) (between-range s at (suc i) k (omega arith))
 
-module _ (s : List ℕ) (at : ℕ) where
-  -- four bytes, each with its weight
-  abbrev fourOf : ℕ
-  fourOf = getD s at 0 + 256 * getD s (at + 1) 0 + 65536 * getD s (at + 2) 0 + 16777216 * getD s (at + 3) 0
-
-  -- four bytes and those behind them
-  number-four : (e : ℕ) → at + 4 ≤ e → e ≤ length s → numberOf (between at e s) ≡ fourOf + 4294967296 * numberOf (between (at + 4) e s)
-  number-four e h k =
-      let a : numberOf (between at e s) ≡ getD s at 0 + 256 * numberOf (between (at + 1) e s) = number-part s at (at + 1) e (omega arith) k (omega arith) in
-      let b : numberOf (between (at + 1) e s) ≡ getD s (at + 1) 0 + 256 * numberOf (between (at + 2) e s) = number-part s (at + 1) (at + 2) e (omega arith) k (omega arith) in
-      let c : numberOf (between (at + 2) e s) ≡ getD s (at + 2) 0 + 256 * numberOf (between (at + 3) e s) = number-part s (at + 2) (at + 3) e (omega arith) k (omega arith) in
-      let d : numberOf (between (at + 3) e s) ≡ getD s (at + 3) 0 + 256 * numberOf (between (at + 4) e s) = number-part s (at + 3) (at + 4) e (omega arith) k (omega arith) in
-      omega arith
-
-  -- four bytes joined
-  pub four-joined : at + 4 ≤ length s → fourOf ≡ numberOf (between at (at + 4) s)
-  four-joined h =
-      let none : numberOf (between (at + 4) (at + 4) s) ≡ 0 = ap numberOf (between-none (at + 4) (at + 4) s (omega arith)) in
-      omega (arith, number-four (at + 4) (omega arith) h)
-
-  -- eight, by two fours
-  pub eight-joined : at + 8 ≤ length s → {low high : ℕ} → low ≡ numberOf (between at (at + 4) s) → high ≡ numberOf (between (at + 4) (at + 4 + 4) s)
-      → low + 4294967296 * high ≡ numberOf (between at (at + 8) s)
-  eight-joined h {low} {high} e f =
-      let q : at + 4 + 4 ≡ at + 8 = omega arith in
-      let g : high ≡ numberOf (between (at + 4) (at + 8) s) = f ∙ ap (λ (e : ℕ). numberOf (between (at + 4) e s)) q in
-      omega (arith, number-four (at + 8) (omega arith) h, four-joined (omega arith))
+-- two words are eight bytes
+pub eight-joined : (s : List ℕ) (at : ℕ) → at + 8 ≤ length s → {low high : ℕ}
+    → low ≡ numberOf (getD s at 0 ∷ getD s (at + 1) 0 ∷ getD s (at + 2) 0 ∷ getD s (at + 3) 0 ∷ [])
+    → high ≡ numberOf (getD s (at + 4) 0 ∷ getD s (at + 5) 0 ∷ getD s (at + 6) 0 ∷ getD s (at + 7) 0 ∷ [])
+    → low + 4294967296 * high ≡ numberOf (between at (at + 8) s)
+eight-joined s at h {low} {high} e f =
+    let z : at + 0 ≡ at = omega arith in
+    let part : between at (at + 8) s ≡ range (λ j. getD s (at + j) 0) 0 8 = ap (λ (a : ℕ). between a (a + 8) s) (sym z) ∙ between-range s at 0 8 (omega arith) in
+    let first : getD s (at + 0) 0 ≡ getD s at 0 = ap (λ (a : ℕ). getD s a 0) z in
+    rw part (omega arith)
 
 -- ---- a zero test, eight bytes a step
 
--- the first bytes, whole eights, are 0 exactly when a number is
+-- the first bytes, up to a place and whole eights, are 0 exactly when the number is
 pub record ZeroTo (s : List ℕ) (used at : ℕ) : Type 0 where
   pub whole : at % 8 ≡ 0
   pub tested : Tested (λ x. eqb x 0) s (eqb used 0) at
@@ -85,18 +74,16 @@ zero-start s = record { whole = refl; tested = test-start (λ x. eqb x 0) s }
 module _ {s : List ℕ} {used at : ℕ} (inv : ZeroTo s used at) where
   -- a step: the eight bytes from the place on, joined
   module _ (fits : at + 8 ≤ length s) {joined : ℕ} (is : joined ≡ numberOf (between at (at + 8) s)) {now : ℕ} where
-    zero-step : eqb now 0 ≡ (eqb used 0 && eqb joined 0) → ZeroTo s now (at + 8)
-    zero-step e =
-        let part : eqb joined 0 ≡ allZero (between at (at + 8) s) = ap (λ (n : ℕ). eqb n 0) is ∙ number-zero (between at (at + 8) s) in
-        record { whole = omega (arith, inv .whole); tested = test-part (inv .tested) 8 fits (e ∙ ap (λ (t : Bool). eqb used 0 && t) part) }
-
     -- where they are not 0, they are or-ed in
     pub zero-used : now ≡ bitOr used joined → ZeroTo s now (at + 8)
-    zero-used e = zero-step (ap (λ (n : ℕ). eqb n 0) e ∙ or-is-zero used joined)
+    zero-used e =
+        let part : eqb joined 0 ≡ allZero (between at (at + 8) s) = ap (λ (n : ℕ). eqb n 0) is ∙ number-zero (between at (at + 8) s) in
+        let both : eqb now 0 ≡ (eqb used 0 && eqb joined 0) = ap (λ (n : ℕ). eqb n 0) e ∙ or-is-zero used joined in
+        record { whole = omega (arith, inv .whole); tested = test-part (inv .tested) 8 fits (both ∙ ap (λ (t : Bool). eqb used 0 && t) part) }
 
     -- where they are, the number stays
     pub zero-unused : joined ≡ 0 → now ≡ used → ZeroTo s now (at + 8)
-    zero-unused z e = zero-step (ap (λ (n : ℕ). eqb n 0) e ∙ sym (ap (λ (n : ℕ). eqb used 0 && eqb n 0) z ∙ and-true (eqb used 0)))
+    zero-unused z e = zero-used (e ∙ sym (ap (bitOr used) z ∙ or-zero-r used))
 
   -- after the last step: of whole slots nothing is left over
   pub zero-end : length s % slotSize ≡ 0 → length s < at + 8 → eqb used 0 ≡ allZero s

@@ -1,12 +1,12 @@
 -- A test of every member of a list, one or several at a time; what a slice holds; when or-ed numbers are 0.
-use mathlib.Core.Path.{_≡_, refl, sym, ap, ap₂, _∙_}
+use mathlib.Core.Path.{_≡_, refl, sym, ap, _∙_}
 use mathlib.Core.Bool.{Bool, true, _&&_, and-true, and-assoc}
 use mathlib.Core.List.{List, [], _∷_, _++_}
 use Prim.Native.Nat.{ℕ, zero, suc, _+_, _-_, _≤_, _<_}
 use native.Mathlib.Numerals.{add-one}
 use native.Mathlib.Omega.{arith}
-use lib.ListN.{length, take, drop, getD, length-drop, drop-of-length-le, take-append-drop}
-use lib.Seq.{drop-drop, getD-drop}
+use lib.ListN.{length, drop, getD, length-drop, drop-of-length-le}
+use lib.Seq.{getD-drop}
 use lib.Bits.{bitOr, or-zero-l, or-add-and, and-le-r}
 use lib.Dec.{T, eqb}
 use mir.Syntax.{w8}
@@ -15,19 +15,12 @@ use mir.Facts.{yes-ltb, fits-lt-pow}
 use borrow.Author.Tests.{ne-eqb}
 use Rattle.model.specs.Lists.{all, between, isByte}
 use Rattle.model.proofs.Bools.{both}
-use Rattle.model.proofs.Lists.{Bytes, all-both, between-one}
+use Rattle.model.proofs.Lists.{Bytes, all-both, drop-part, between-one}
 
 -- t is the answer for the first i members
 pub record Tested (p : ℕ → Bool) (s : List ℕ) (t : Bool) (i : ℕ) : Type 0 where
   pub within : i ≤ length s
   pub same : all p s ≡ (t && all p (drop i s))
-
--- what stands from place i on: k members, then the others
-drop-part : (i k : ℕ) (s : List ℕ) → drop i s ≡ between i (i + k) s ++ drop (i + k) s
-drop-part i k s =
-    let n : i + k - i ≡ k = omega arith in
-    sym (take-append-drop k (drop i s))
-    ∙ ap₂ (λ (l m : List ℕ). l ++ m) (ap (λ (j : ℕ). take j (drop i s)) (sym n)) (drop-drop k i s)
 
 -- so it is before the first member
 pub test-start : (p : ℕ → Bool) (s : List ℕ) → Tested p s true 0

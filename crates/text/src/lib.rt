@@ -67,10 +67,7 @@ pub fn measure_of(v: &[u8]) -> u32
     requires { ⌜ length (now v) ≡ 4 ⌝ }
     ensures { λ r. ⌜ r ≡ measureOf (now (v .entry)) ⌝ }
 {
-    octets::wide(v[0])
-        + 256 * octets::wide(v[1])
-        + 65536 * octets::wide(v[2])
-        + 16777216 * octets::wide(v[3])
+    octets::word(v[0], v[1], v[2], v[3])
 }
 
 // A number of 32 bits as a signed number in decimal, with a minus sign if it is negative.

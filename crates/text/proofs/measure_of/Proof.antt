@@ -1,4 +1,4 @@
--- `text::measure_of`: the four bytes, each with its weight.
+-- `text::measure_of`: the word of its four bytes.
 use native.Mathlib.Omega.{arith}
 use borrow.Author.Needs.{needs}
 use Rattle.model.specs.Text.{measureOf}
@@ -10,19 +10,10 @@ unfolding measureOf
 measure-of-spec =
     tie.close
     (tie.spec
-    (λ c. search needs)  -- shared-slice-read-wide
-    (λ c. search needs)  -- wide-requires
-    (λ c. search needs)  -- shared-slice-read-wide-2
-    (λ c. search needs)  -- wide-requires-2
-    (λ c. search needs)  -- mul-result
-    (λ c. search needs)  -- add-result
-    (λ c. search needs)  -- shared-slice-read-wide-3
-    (λ c. search needs)  -- wide-requires-3
-    (λ c. search needs)  -- mul-result-2
-    (λ c. search needs)  -- add-result-2
-    (λ c. search needs)  -- shared-slice-read-wide-4
-    (λ c. search needs)  -- wide-requires-4
-    (λ c. search needs)  -- mul-result-3
-    (λ c. search needs)  -- add-result-3
-    (λ c. omega arith)  -- returns
+    (λ c. search needs)  -- shared-slice-read-word
+    (λ c. search needs)  -- shared-slice-read-word-2
+    (λ c. search needs)  -- shared-slice-read-word-3
+    (λ c. search needs)  -- shared-slice-read-word-4
+    (λ c. search needs)  -- word-requires
+    (λ c. omega (arith, c .word .ensures))  -- returns
     )

@@ -33,4 +33,4 @@ slots-zero-spec =
     (λ w. zero-used inv (omega (arith, test .loop-test .taken)) (c .before .eight-at .ensures) (w .1))
     (λ w. zero-unused inv (omega (arith, test .loop-test .taken)) (c .before .eight-at .ensures) (w .0 .left) (w .1))
     (c .if1 .came))
-    (λ c. zero-end (c .before .loop .inv) (c .before .before .before .pre) (c .loop-test .left)))  -- returns
+    (λ c. zero-end (c .before .loop .inv) (c .before .before .before .pre) (omega (arith, c .loop-test .left))))  -- returns
