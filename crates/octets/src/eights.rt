@@ -17,8 +17,8 @@ fn eight_at(s: &[u8], at: usize) -> u64
     low as u64 + 4294967296 * high as u64
 }
 
-// Whether every byte of whole slots is 0: eight bytes are joined and tested a step. What is not 0 is or-ed together, not returned upon:
-// of a loop without an early exit the compiler makes vectors.
+// Whether every byte of whole slots is 0: a step joins eight bytes and tests the number. One that is not 0 is or-ed in and does not end
+// the loop: without an early exit the compiler makes vectors of it.
 pub fn slots_zero(s: &[u8]) -> bool
     requires { ⌜ length (now s) % slotSize ≡ 0 ⌝ }
     ensures { λ r. ⌜ r ≡ allZero (now (s .entry)) ⌝ }

@@ -1,4 +1,4 @@
-// Small loops on byte slices.
+// Bytes widened and joined, and small loops on byte slices.
 mod eights;
 
 pub use eights::slots_zero;
