@@ -15,8 +15,8 @@
  * by 2. Cut down to eight bits before the call it would be another subject's.
  *
  * A PATH is three bytes a step: the name (1 to 65535), lowest byte first, then the label. It has one to six steps, each label
- * dominating the one before; the last label is the element's. The path of no bytes is the root: a view takes it, a grade refuses
- * it by 12 and every other call by 4.
+ * dominating the one before; the last label is the element's. The path of no bytes is the root: a view takes it, and XML intake
+ * as the parent; a grade refuses it by 12 and every other call by 4.
  *
  * A VALUE is a kind and bytes. Kind 0, a group: no bytes. Kind 1, a measure: four bytes, a signed number of hundredths of a
  * millimetre, lowest byte first. Kind 2, a text: 1 to 16 bytes, each 32 to 126. Pass the kind as it is, too: 256 is refused by 5.
@@ -28,15 +28,15 @@
  *
  *   - A pointer reaches as many bytes as its length says. It is not NULL, not even where the length is 0: lend the address of
  *     any byte then; nothing is read or written there.
- *   - A buffer that is written (the store of an insert, an update or a delete; the output of a view) does not overlap another
- *     buffer of the same call. Buffers that are only read may overlap: a grade may be given one path twice.
+ *   - A buffer that is written (the store of an insert, an update, a delete or an XML intake; the output of a view) does not
+ *     overlap another buffer of the same call. Buffers that are only read may overlap: a grade may be given one path twice.
  *   - Until a call returns, no other thread, signal handler or device writes a buffer that it was lent, or reads one that it
  *     writes. So two calls on one store run at the same time only if both only read it: views and grades. The library has no
  *     lock of its own.
  *   - The functions are declared as below, with nothing narrower.
  *
- * A view takes less than 6 KB of stack on x86-64, a view as XML less than 8 KB and the other calls, a grade too, less than 1 KB,
- * as measured on a full store. No call blocks.
+ * A view takes less than 6 KB of stack on x86-64, a view as XML and an XML intake less than 8 KB and the other calls, a grade
+ * too, less than 1 KB, as measured on a full store. No call blocks.
  */
 #ifndef DOSSIER_H
 #define DOSSIER_H
@@ -92,8 +92,8 @@ enum {
 };
 
 /* The number of an answer: 0, or the first cause that applies, in the order of the numbers but for 11, which a grade tests right
- * after 4. After a refusal the count is 0, or the step and the remainder are, and the store and the output hold the bytes that
- * they held before. */
+ * after 4, and 13 and 14, which an XML intake tests there. After a refusal the count is 0, or the step and the remainder are, and
+ * the store and the output hold the bytes that they held before. */
 enum {
     /* The call is done. */
     DOSSIER_DONE = 0,
@@ -103,26 +103,31 @@ enum {
     DOSSIER_REFUSED_SUBJECT = 2,
     /* A partition that the subject dominates is not well formed. Others are not read. */
     DOSSIER_REFUSED_NOT_WELL_FORMED = 3,
-    /* The path's length is no multiple of 3, it has over six steps, or none in a call that is neither a view nor a grade; or a
-     * name is 0, a label over 31, or a label does not dominate the one before. Grade: either path is so. */
+    /* The path's length is no multiple of 3, it has over six steps, or none in a call that is no view, no grade and no XML
+     * intake; or a name is 0, a label over 31, or a label does not dominate the one before. Grade: either path is so. XML intake:
+     * the parent's is. */
     DOSSIER_REFUSED_PATH = 4,
     /* Insert, update: the kind is over 2, or the value's length or bytes are not those of its kind. */
     DOSSIER_REFUSED_VALUE = 5,
     /* Insert, update, delete: the path's last label is not the subject's. */
     DOSSIER_REFUSED_OTHER_LABEL = 6,
-    /* View: the path is not in view. Insert: the parent is not in view. Update, delete: the element is not live. Grade: either
-     * path is not in view. */
+    /* View: the path is not in view. Insert, XML intake: the parent is not in view. Update, delete: the element is not live.
+     * Grade: either path is not in view. */
     DOSSIER_REFUSED_ABSENT = 7,
-    /* Insert: the element is live. */
+    /* Insert: the element is live. XML intake: the top element is. */
     DOSSIER_REFUSED_LIVE = 8,
-    /* Insert: the subject's partition holds 32 elements. */
+    /* Insert: the subject's partition holds 32 elements. XML intake: with those of the text it would hold more. */
     DOSSIER_REFUSED_FULL = 9,
     /* View: the output is shorter than the listing or the XML. */
     DOSSIER_REFUSED_OUTPUT_SHORT = 10,
     /* Grade: the number of sizes is not 1 to 64. Tested right after 4. */
     DOSSIER_REFUSED_SIZES = 11,
     /* Grade: both paths are in view, and either is no live measure's: a group's, a text's, a removed element's or the root's. */
-    DOSSIER_REFUSED_NO_MEASURE = 12
+    DOSSIER_REFUSED_NO_MEASURE = 12,
+    /* XML intake: the text is not in form. Tested right after 4. */
+    DOSSIER_REFUSED_FORM = 13,
+    /* XML intake: a label of the text is not the subject's, or an element is REMOVED. Tested right after 13. */
+    DOSSIER_REFUSED_NOT_OWN = 14
 };
 
 /* What every call but a grade answers, returned by value: its number, and its count (what it counts stands at each call). */
@@ -183,6 +188,28 @@ struct dossier_answer dossier_delete(uint8_t *store, size_t store_length, uint32
  * A measure that the subject may not see is refused as one that is not there. Pass n as it is: 257 is refused by 11. */
 struct dossier_grade dossier_grade(const uint8_t *store, size_t store_length, uint32_t subject, const uint8_t *base,
                                    size_t base_length, const uint8_t *top, size_t top_length, uint32_t n);
+
+/* XML intake: takes in a style, sent as one XML element, and puts it below the parent with all that stands inside it, all
+ * elements or none. The parent must be in view, be it removed; the root will do. Count: how many elements were made. Only the
+ * subject's partition is written. What was taken in reads back: in the dossier tag of its view stands the text, siblings in path
+ * order.
+ *
+ * The text is in form if it is byte for byte what dossier_view_xml writes of an element, without the dossier tag, but that
+ * siblings may stand in any order. So nothing stands before or behind the element, no byte 10 either; one space stands before
+ * each attribute and no other white space outside of values; there is no <e4/>, no comment or declaration and no other escape;
+ * and no number has a plus or a leading zero or is -0. A value of kind T is 1 to 16 characters long, its escapes undone. No
+ * two siblings are equal in name and label, and the steps of the parent's path and the nesting come to six at most together. An
+ * element that is REMOVED, with kind - and no value, is in form.
+ *
+ * The causes are tested in this order: 1, 2, 3, 4 (the parent's path), 13 (the form), 14 (labels and marks), 7 (the parent), 8
+ * (the top element) and 9 (all elements); 5 and 6 do not occur. So a text of any length is read to its end before one behind 13
+ * is told.
+ *
+ * The time is linear in the length of the text where no element has more than 32 directly inside it. Where one has more, which
+ * ends in a refusal anyway, what is inside it is gone through once more for each 512 of these: 1 MB of 22,000 siblings takes
+ * less than two seconds. */
+struct dossier_answer dossier_insert_xml(uint8_t *store, size_t store_length, uint32_t subject, const uint8_t *parent,
+                                         size_t parent_length, const uint8_t *text, size_t text_length);
 
 #ifdef __cplusplus
 }

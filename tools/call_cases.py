@@ -13,11 +13,12 @@ number, the count and the listing or the XML that the documents fix, or the numb
 reference is held to them. The sequences of a file bring their own answers, and the reference is held to these too; the SHA-256
 of the store at the end of each stands below.
 
-A record of stdin is a head of four bytes, three words and two texts. The head: a letter, the lengths of the texts, zero. The
-words, lowest byte first: the store's length; a subject or a place; a kind, the output's length or a number of sizes. The
-letters: V, M (the view as XML), I, U and D, calls (texts: path and value); G (the even grade), a call too (texts: the base's
-path and the top's); N, a name for what follows (text: a line); Z, every byte of the store becomes 0; X, bytes come onto the
-store from a place on (text: the bytes); S, the store is shown.
+A record of stdin is a head of four bytes, three words and two texts. The head: a letter, the length of the first text, and in two
+bytes that of the second. The words: the store's length; a subject or a place; a kind, the output's length or a number of sizes.
+Numbers have their lowest byte first. The letters: V, M (the view as XML), I, U and D, calls (texts: path and value); G (the even
+grade), a call too (texts: the base's path and the top's); T (the XML intake), a call too (texts: the parent's path and the XML);
+N, a name for what follows (text: a line); Z, every byte of the store becomes 0; X, bytes come onto the store from a place on
+(text: the bytes); S, the store is shown.
 
 stdout has for each call a line of its letter, number and count, and behind V and M what was written, up to the last byte of the
 output that is not as it was, XML with an end of line behind it; for G a line of its letter, number, step and remainder, the
@@ -40,13 +41,13 @@ BUFFER = 33 * PARTITION  # what the program keeps: a store, and some bytes behin
 
 records = []
 output = []
-answered = {letter: set() for letter in "VMIUDG"}
+answered = {letter: set() for letter in "VMIUDGT"}
 buffer = bytearray(BUFFER)
 
 
 def record(letter, first=b"", second=b"", subject=0, third=0, size=BUFFER):
     """Keeps a record and carries it out: what the call answers and writes, if it is a call."""
-    head = bytes([ord(letter), len(first), len(second), 0]) + struct.pack("<III", size, subject, third)
+    head = struct.pack("<BBHIII", ord(letter), len(first), len(second), size, subject, third)
     records.append(head + first + second)
     if letter == "N":
         output.append(first)
@@ -58,12 +59,14 @@ def record(letter, first=b"", second=b"", subject=0, third=0, size=BUFFER):
         show_store()
     elif letter == "G":
         return graded(first, second, subject, third, size)
+    elif letter == "T":
+        return taken_in(first, second, subject, size)
     else:
         return call(letter, first, second, subject, third, size)
 
 
 def call(letter, path, value, subject, third, size):
-    """Carries out a call, not G, on the first bytes of the buffer; the third word is the output's length (V, M) or a kind."""
+    """Carries out V, M, I, U or D on the first bytes of the buffer; the third word is the output's length (V, M) or a kind."""
     model = Model(buffer[:size])
     number, count, text = model.call(letter, subject, path, third, value, third)
     buffer[:size] = model.bytes()
@@ -80,6 +83,16 @@ def graded(base, top, subject, n, size):
     output.append(b"G %d %d %d\n" % (number, step, remainder))
     answered["G"].add(number)
     return number, step, remainder
+
+
+def taken_in(parent, text, subject, size):
+    """Carries out T on the first bytes of the buffer."""
+    model = Model(buffer[:size])
+    number, count = model.insert_xml(subject, parent, text)
+    buffer[:size] = model.bytes()
+    output.append(b"T %d %d\n" % (number, count))
+    answered["T"].add(number)
+    return number, count
 
 
 def show_store():
@@ -194,6 +207,12 @@ def markup_elements(subject, where, elements):
     hold((number, text.count(b" label="), text.count(b"</e")), (0, elements, elements))
 
 
+def markup_of(subject, where, *elements):
+    """A view as XML of these elements, into an output of its length."""
+    text = dossier(subject, *elements)
+    markup(subject, where, len(text), 0, len(text), text)
+
+
 def grade(subject, base, top, n, number, step=0, remainder=0, size=STORE):
     """An even grade from the base's path to the top's."""
     hold(record("G", path(base), path(top), subject, n, size), (number, step, remainder))
@@ -203,6 +222,33 @@ def grade_both(subject, one, other, n, number, size=STORE):
     """The even grades from one path to another and from that to the one are refused with one number."""
     grade(subject, one, other, n, number, 0, 0, size)
     grade(subject, other, one, n, number, 0, 0, size)
+
+
+def intake(subject, where, text, number, count=0, size=STORE):
+    """An XML intake of a text below the parent's path; bytes stay as they are."""
+    raw = text if isinstance(text, bytes) else text.encode("latin-1")
+    hold(record("T", path(where), raw, subject, 0, size), (number, count))
+
+
+def read_back(subject, where, top, text, count):
+    """An XML intake that is done, of a text with its siblings in path order: the subject's XML of its top element is the text."""
+    intake(subject, where, text, 0, count)
+    markup_of(subject, top, text)
+
+
+def groups(label, names):
+    """Groups of one label, as XML."""
+    return [e(name, label, "G") for name in names]
+
+
+def many(label, n, top=1000):
+    """A group with n - 1 groups inside, as XML."""
+    return e(top, label, "G", *groups(label, range(1, n)))
+
+
+def deep(name, label, n):
+    """A group in a group, n of them, as XML."""
+    return e(name, label, "G", deep(name, label, n - 1)) if n > 0 else ""
 
 
 def corrupt(offset, raw):
@@ -224,13 +270,15 @@ def show():
 
 
 def every_call(number, subject, where, value=G, size=STORE):
-    """All six calls are refused with one number, one that comes before 12: of an even grade the other path is the root's."""
+    """All seven calls are refused with one number, one that comes before 8, 12 and 13: of an even grade the other path is the
+    root's, and an XML intake, below the path, brings a group of the subject's label."""
     insert(subject, where, value, number, size)
     update(subject, where, value, number, 0, size)
     delete(subject, where, number, 0, size)
     view(subject, where, 100, number, 0, (), size)
     markup(subject, where, 100, number, 0, "", size)
     grade_both(subject, where, "/", 1, number, size)
+    intake(subject, where, e(1, subject, "G"), number, 0, size)
 
 
 # ---------------------------------------------------------------------------------------------------------------------
@@ -1161,6 +1209,580 @@ def grade_subjects():
 
 
 # ---------------------------------------------------------------------------------------------------------------------
+# XML intakes: document 02's request 5/14.
+
+
+@case("XML intakes")
+def intakes():
+    insert(0, "10:0", G, 0)
+    intake(16, "10:0", e(20, 16, "G", e(3, 16, "M", "-150"), e(2, 16, "T", "a &lt; b")), 0, 3)
+    intake(16, "10:0", e(20, 16, "G"), 8)
+    intake(16, "/", e(1, 16, "T", "&amp;" * 16), 0, 1)
+    intake(16, "/", e(2, 16, "T", "&amp;" * 17), 13)
+    intake(16, "/", e(3, 16, "G", e(1, 16, "G"), e(1, 16, "G")), 13)
+    intake(16, "/", e(3, 16, "G", e(1, 16, "G"), e(1, 17, "G")), 14)
+    intake(16, "/", e(3, 16, "G", e(1, 16, "-")), 14)
+    intake(16, "/", '<e3 label="16" preserve="REMOVED" kind="G"></e3>', 13)
+    intake(16, "/", '<e3 label="16" preserve="REMOVED" kind="-">x</e3>', 13)
+    intake(16, "/", '<e3 label="16" preserve="PRESENT" kind="-"></e3>', 13)
+    intake(16, "/", e(3, 32, "G"), 13)
+    intake(16, "/", e(3, 0, "G"), 14)
+    intake(16, "/", e(0, 16, "G"), 13)
+    intake(16, "/", e(65536, 16, "G"), 13)
+    intake(16, "/", '<e03 label="16" preserve="PRESENT" kind="G"></e03>', 13)
+    intake(16, "/", '<e3 label="016" preserve="PRESENT" kind="G"></e3>', 13)
+    intake(16, "/", e(3, 16, "M"), 13)
+    intake(16, "/", e(3, 16, "M", "-0"), 13)
+    intake(16, "/", e(3, 16, "M", "2147483648"), 13)
+    intake(16, "/", e(3, 16, "M", "-2147483648"), 0, 1)
+    intake(16, "/", e(4, 16, "T"), 13)
+    intake(16, "/", e(4, 16, "T", "a>b"), 13)
+    intake(16, "/", e(4, 16, "T", "&quot;"), 13)
+    intake(16, "/", e(4, 16, "G", "x"), 13)
+    intake(16, "/", e(4, 16, "G", e(1, 16, "G"), "x"), 13)
+    intake(16, "/", e(4, 16, "G") + "\n", 13)
+    intake(16, "/", '<e4 label="16" preserve="PRESENT" kind="G"/>', 13)
+    intake(16, "/", '<e4  label="16" preserve="PRESENT" kind="G"></e4>', 13)
+    intake(16, "/", '<e4 preserve="PRESENT" label="16" kind="G"></e4>', 13)
+    intake(16, "/", '<e4 label="16" preserve="PRESENT" kind="G"></e5>', 13)
+    intake(16, "/", dossier(16, e(4, 16, "G")), 13)
+    intake(16, "/", "", 13)
+    intake(16, "/", e(4, 16, "G") + e(5, 16, "G"), 13)
+    intake(16, "/", e(60, 0, "G") + " ", 13)
+    intake(16, "/", e(60, 16, "G", e(61, 0, "G")), 14)
+    intake(16, "/", e(60, 16, "-"), 14)
+    intake(16, "/", e(60, 16, "-", e(61, 16, "M", "7")), 14)
+    intake(40, "/", e(4, 16, "G"), 2)
+    intake(16, "1:0/2:0/3:0/4:0/5:0/6:0", e(4, 16, "G"), 13)
+    intake(16, "11:0", e(4, 16, "G"), 7)
+    intake(16, "11:0", e(4, 0, "G"), 14)
+    intake(16, "0:0", "<", 4)
+    intake(0, "10:0/20:16", e(4, 0, "G"), 7)
+    intake(16, "10:0/20:16/2:16", deep(9, 16, 4), 13)
+    intake(16, "10:0/20:16/2:16", deep(9, 16, 3), 0, 3)
+    intake(16, "/", e(50, 16, "G", *groups(16, range(1, 32))), 9)
+    intake(17, "/", e(50, 17, "G", *groups(17, range(31, 0, -1))), 0, 32)
+    intake(17, "/", e(51, 17, "G"), 9)
+    e2 = e(2, 16, "T", "a &lt; b", deep(9, 16, 3))
+    markup(16, "10:0/20:16", 400, 0, 334, dossier(16, e(20, 16, "G", e2, e(3, 16, "M", "-150"))))
+    show()
+
+
+@case("an XML intake reads back as it was sent")
+def intake_read_back():
+    read_back(0, "/", "1:0", e(1, 0, "G"), 1)
+    read_back(0, "/", "2:0", e(2, 0, "M", "0", e(1, 0, "T", "SLEEVE", e(1, 0, "G"), e(2, 0, "M", "-7")), e(2, 0, "G")), 5)
+    read_back(0, "1:0", "1:0/5:0", e(5, 0, "T", "x", e(1, 0, "G"), e(300, 0, "G", e(1, 0, "M", "1"))), 4)
+    read_back(31, "1:0/5:0/300:0", "1:0/5:0/300:0/7:31", e(7, 31, "G", e(65535, 31, "T", "~")), 2)
+    lines = ["VIEW→31→7", "1→1→0→P→G→-", "2→5→0→P→T→x", "3→1→0→P→G→-", "3→300→0→P→G→-", "4→1→0→P→M→1"]
+    view(31, "1:0", 200, 0, 102, lines + ["4→7→31→P→G→-", "5→65535→31→P→T→~"])
+    show()
+
+
+@case("XML intakes of the least and the greatest name, label and measure")
+def intake_ranges():
+    read_back(31, "/", "1:31", e(1, 31, "M", "-2147483648"), 1)
+    read_back(0, "/", "65535:0", e(65535, 0, "M", "2147483647"), 1)
+    read_back(9, "/", "10000:9", e(10000, 9, "M", "0", e(9999, 9, "M", "-1"), e(59999, 9, "M", "10")), 3)
+    show()
+    then("13: names of 0, over 65535 and with other digits, and an end tag with another name")
+    for name in ("0", "00", "01", "007", "65536", "65537", "99999", "100000", "131073", "4294967297", "18446744073709551617"):
+        intake(0, "/", '<e%s label="0" preserve="PRESENT" kind="G"></e%s>' % (name, name), 13)
+    for name in ("", "-1", "+1", "1.0", "x", "1" * 300, "0" * 300 + "1", "\xb2"):
+        intake(0, "/", '<e%s label="0" preserve="PRESENT" kind="G"></e%s>' % (name, name), 13)
+    for name in ("", "0", "1", "2", "11", "122", "012", "12 ", "65548", "13"):
+        intake(0, "/", '<e12 label="0" preserve="PRESENT" kind="G"></e%s>' % name, 13)
+    intake(0, "/", e(12, 0, "G", e(13, 0, "G")).replace("</e13></e12>", "</e12></e13>"), 13)
+    then("13: labels over 31 and with other digits")
+    for label in ("32", "40", "99", "100", "255", "256", "272", "65552", "4294967312", "18446744073709551632"):
+        intake(16, "/", '<e1 label="%s" preserve="PRESENT" kind="G"></e1>' % label, 13)
+    for label in ("", "00", "016", "+16", "-16", "-0", "16.0", "1 6", "x", "1" * 300, "0" * 300 + "16"):
+        intake(16, "/", '<e1 label="%s" preserve="PRESENT" kind="G"></e1>' % label, 13)
+    then("13: measures out of range and with other digits")
+    for n in ("2147483648", "-2147483649", "4294967295", "4294967296", "9999999999", "-9999999999", "18446744073709551616"):
+        intake(0, "/", e(1, 0, "M", n), 13)
+    for n in ("", "-", "--1", "+1", "01", "-01", "00", "-0", " 1", "1 ", "1.0", "1e3", "a", "1&amp;", "1" * 300, "0" * 300):
+        intake(0, "/", e(1, 0, "M", n), 13)
+    show()
+
+
+# a style to which slips are made
+STYLE = e(4, 16, "G", e(5, 16, "T", "a&amp;b"), e(6, 16, "M", "-10"))
+
+
+def slip(old, *wrong):
+    """XML intakes of the style with other characters at the first place of some, refused with 13."""
+    for new in wrong:
+        assert old in STYLE and old != new
+        intake(16, "/", STYLE.replace(old, new, 1), 13)
+
+
+@case("13: white space in the XML of a style")
+def intake_spaces():
+    slip(" label", "  label", "\tlabel", "\nlabel", "label")
+    slip(" preserve", "  preserve", "preserve")
+    slip(" kind", "  kind", "kind")
+    slip("=", " =", "= ")
+    slip('"16"', '" 16"', '"16 "')
+    slip('"G">', '"G" >', '"G"> ', '"G">\n')
+    slip("<e4", " <e4", "\n<e4", "< e4")
+    slip("</e4>", " </e4>", "</ e4>", "</e4 >", "</e4> ", "</e4>\n", "\n</e4>")
+    slip("</e5>", "</e5> ", "</e5>\n")
+    slip("-10", " -10", "- 10", "-10 ", "-10\n")
+    intake(16, "/", STYLE, 0, 3)
+
+
+@case("13: other attributes in the XML of a style")
+def intake_attributes():
+    slip(' label="16"', "", ' label="16" label="16"', " label='16'", " label=16", " label", ' Label="16"', ' labels="16"')
+    slip(' preserve="PRESENT"', "", ' PRESERVE="PRESENT"', ' preserve="present"', ' preserve=""', ' preserve="LIVE"')
+    slip("PRESENT", "PRESENTED", "PRESEN", "REMOVED", "PRESENT REMOVED")
+    slip(' kind="G"', "", ' kind="G" season="1"', ' kind="G" kind="G"', " kind='G'", " kind=G", ' type="G"')
+    slip('"G"', '"g"', '""', '"GG"', '"P"', '"R"', '"0"', '"M"', '"T"', '"-"')
+    slip('"T"', '"G"', '"M"', '"-"')
+    slip('"M"', '"G"', '"-"')
+    slip('label="16" preserve="PRESENT"', 'preserve="PRESENT" label="16"')
+    slip('preserve="PRESENT" kind="G"', 'kind="G" preserve="PRESENT"')
+    intake(16, "/", STYLE, 0, 3)
+
+
+@case("13: other tags in the XML of a style, and what stands around them")
+def intake_tags():
+    slip("<e4", "e4", "<E4", "<f4", "<4", "<x:e4", "<<e4", "<e", "<e 4", "<e4.0")
+    slip('"G">', '"G"', '"G">>', '"G"/>', '"G"?>')
+    slip("</e4>", "", "</e4", "<e4>", "</E4>", "</f4>", "<//e4>", "</e4/>", "</e4></e4>", "</e5>", "</e>", "</e44>", "</e04>")
+    slip("</e5>", "", "</e4>", "</e6>", "</e5></e5>")
+    slip("<e6", "")
+    slip("<e4", '<?xml version="1.0"?><e4', "<!-- a --><e4", "\xef\xbb\xbf<e4", "x<e4", "\0<e4")
+    slip("</e4>", "</e4>x", "</e4>\0", "</e4><!-- a -->", "</e4><e7>", "x</e4>", "</e4>" + e(4, 16, "G"), "</e4>" + e(7, 16, "G"))
+    slip("<e5", "x<e5", "<!-- a --><e5", "<![CDATA[]]><e5")
+    slip("</e5>", "</e5>x", "</e5>&amp;")
+    slip("</e6>", "</e6>-10")
+    for text in ("<", "x", "\0", "<e", "</e4>", "<e4>", "<e4></e4>", dossier(16), dossier(16, STYLE)):
+        intake(16, "/", text, 13)
+    intake(16, "/", '<e4 label="16" preserve="PRESENT" kind="G"/>', 13)
+    show()
+    read_back(16, "/", "4:16", STYLE, 3)
+
+
+@case("13: an XML intake of a text cut off at each place, and with one byte changed, added and left out at each place")
+def intake_bytes():
+    style = e(5, 16, "T", "x", e(6, 16, "G"))
+    for n in range(len(style)):
+        intake(16, "/", style[:n], 13)
+    style = e(5, 16, "T", "x")
+    value, label = style.index("x"), style.index("16")
+    for i in range(len(style)):
+        if i != value:
+            intake(16, "/", style[:i] + "~" + style[i + 1 :], 13)
+            intake(16, "/", style[:i] + style[i + 1 :], 14 if i in (label, label + 1) else 13)
+    for i in range(len(style) + 1):
+        if i not in (value, value + 1):
+            intake(16, "/", style[:i] + " " + style[i:], 13)
+    show()
+    intake(16, "/", style.replace("x", " x"), 0, 1)
+    show()
+
+
+@case("the texts of an XML intake, by their length with their escapes undone")
+def intake_texts():
+    read_back(0, "/", "1:0", e(1, 0, "T", "x"), 1)
+    read_back(0, "/", "2:0", e(2, 0, "T", "0123456789abcdef"), 1)
+    for name, escape in ((3, "&amp;"), (4, "&lt;"), (5, "&gt;")):
+        read_back(0, "/", "%d:0" % name, e(name, 0, "T", escape * 16), 1)
+    read_back(0, "/", "6:0", e(6, 0, "T", "&amp;&lt;&gt;0123456789abc"), 1)
+    read_back(0, "/", "7:0", e(7, 0, "T", "0123456789abc&amp;&lt;&gt;"), 1)
+    read_back(0, "/", "8:0", e(8, 0, "T", " " * 16), 1)
+    read_back(0, "/", "9:0", e(9, 0, "T", " "), 1)
+    show()
+    then("13: texts of 0 characters and of 17")
+    for text in ("", "&amp;" * 17, "&lt;" * 17, "&gt;" * 17, "x" * 17, "x" * 16 + "&amp;", "&gt;" + "x" * 16, " " * 17):
+        intake(0, "/", e(10, 0, "T", text), 13)
+    then("13: characters that are not allowed, and others that are not so escaped")
+    for x in (0, 9, 10, 13, 31, 127, 128, 255):
+        intake(0, "/", e(10, 0, "T", "ab" + chr(x)), 13)
+    for text in (">", "a>b", "&", "&&amp;", "&amp", "&amp&amp;", "&amp ;", "& amp;", "&AMP;", "&ampx;", "&lt", "&gt", "&;", "&a"):
+        intake(0, "/", e(10, 0, "T", text), 13)
+    for text in ("&quot;", "&apos;", "&#38;", "&#x26;", "&#65;", "&nbsp;", "<![CDATA[a]]>", "<!-- a -->", "<a", "a<b", "<"):
+        intake(0, "/", e(10, 0, "T", text), 13)
+    show()
+
+
+@case("every character of a text in an XML intake")
+def intake_characters():
+    others = ["@ABCDEFGHIJKLMNO", "PQRSTUVWXYZ[\\]^_", "`abcdefghijklmno", "pqrstuvwxyz{|}~"]
+    written = [" !\"#$%&amp;'()*+,-./", "0123456789:;&lt;=&gt;?"] + others
+    style = e(1, 0, "T", "&amp;amp;&amp;lt;&amp;#", *[e(name, 0, "T", text) for name, text in enumerate(written, 1)])
+    read_back(0, "/", "1:0", style, 7)
+    plain = [" !\"#$%&'()*+,-./", "0123456789:;<=>?"] + others
+    lines = ["2→%d→0→P→T→%s" % (name, text) for name, text in enumerate(plain, 1)]
+    view(0, "/", 300, 0, 192, ["VIEW→0→7", "1→1→0→P→T→&amp;&lt;&#"] + lines)
+    show()
+
+
+@case("13: a value of another kind, PRESENT with -, REMOVED with G, M and T and with a value")
+def intake_kinds():
+    for kind, value in (("G", "x"), ("G", "0"), ("G", " "), ("G", "&amp;"), ("M", "x"), ("M", ""), ("T", "")):
+        intake(0, "/", e(1, 0, kind, value), 13)
+    for kind, value in (("G", ""), ("M", ""), ("M", "1"), ("T", ""), ("T", "x"), ("-", "x"), ("-", "0"), ("-", "-"), ("-", " ")):
+        intake(0, "/", '<e1 label="0" preserve="REMOVED" kind="%s">%s</e1>' % (kind, value), 13)
+    for value in ("", "x", "1", "-"):
+        intake(0, "/", '<e1 label="0" preserve="PRESENT" kind="-">%s</e1>' % value, 13)
+    intake(0, "/", e(1, 0, "G", '<e2 label="0" preserve="PRESENT" kind="-"></e2>'), 13)
+    intake(0, "/", e(1, 0, "G", '<e2 label="0" preserve="REMOVED" kind="G"></e2>'), 13)
+    then("14: REMOVED with - and no value, with elements inside and without, at the top and inside")
+    intake(0, "/", e(1, 0, "-"), 14)
+    intake(0, "/", e(1, 0, "-", e(2, 0, "G")), 14)
+    intake(0, "/", e(1, 0, "-", e(2, 0, "-"), e(3, 0, "-", e(4, 0, "M", "1"))), 14)
+    intake(0, "/", e(1, 0, "G", e(2, 0, "T", "x", e(3, 0, "-"))), 14)
+    intake(0, "/", e(1, 0, "M", "1", e(2, 0, "G"), e(3, 0, "-")), 14)
+    intake(0, "/", e(1, 16, "-"), 14)
+    then("14: another label, above, below and beside, at the top and inside")
+    for label in (0, 8, 9, 17, 24, 31):
+        intake(16, "/", e(1, label, "G"), 14)
+        intake(16, "/", e(1, 16, "G", e(2, 16, "G", e(3, label, "G"))), 14)
+        intake(16, "/", e(1, 16, "G", e(2, 16, "G"), e(3, label, "M", "1")), 14)
+    then("14: labels that are not ascending, and labels that are")
+    intake(16, "/", e(1, 16, "G", e(2, 0, "G")), 14)
+    intake(0, "/", e(1, 16, "G", e(2, 0, "G")), 14)
+    intake(16, "/", e(1, 0, "G", e(2, 16, "G")), 14)
+    intake(16, "/", e(1, 9, "G", e(2, 16, "G")), 14)
+    show()
+
+
+@case("13 before 14: a slip at the end behind another label and behind a REMOVED mark")
+def intake_13_14():
+    ends = ["x", " ", e(2, 16, "G"), "<", "</e1>"]
+    for style in (e(1, 0, "G"), e(1, 16, "-"), e(1, 0, "-"), e(1, 16, "G", e(2, 0, "G")), e(1, 16, "G", e(2, 16, "-"))):
+        intake(16, "/", style, 14)
+        for end in ends:
+            intake(16, "/", style + end, 13)
+        intake(16, "/", style[:-1], 13)
+        intake(16, "/", style.replace("</e1>", "</e2>"), 13)
+        intake(16, "/", style.replace("</e1>", "x</e1>"), 13)
+    then("a wrong label or mark first, and then a name, a label, a value, equal siblings and a seventh step")
+    for slip in (e(0, 16, "G"), e(3, 32, "G"), e(3, 16, "M"), e(3, 16, "T", "&amp;" * 17), e(3, 16, "G", "x"), e(2, 0, "G")):
+        intake(16, "/", e(1, 0, "G", e(2, 0, "G"), slip), 13)
+        intake(16, "/", e(1, 0, "-", e(2, 0, "-"), slip), 13)
+    intake(16, "/", e(1, 0, "G", deep(2, 16, 6)), 13)
+    intake(16, "/", e(1, 0, "-", deep(2, 0, 5), deep(3, 0, 6)), 13)
+    then("the same slip before them")
+    intake(16, "/", e(1, 16, "G", e(3, 16, "M"), e(2, 0, "G")), 13)
+    intake(16, "/", e(1, 16, "G", e(3, 32, "G"), e(2, 16, "-")), 13)
+    show()
+
+
+@case("the order of an XML intake's refusals")
+def intake_order():
+    insert(0, "10:0", G, 0)
+    insert(9, "10:9", G, 0)
+    insert(16, "20:16", G, 0)
+    then("4 before 13, 14 and 7")
+    for where in ("0:0", "10:32", "10:16/20:9", path("10:0") * 7, b"\1", path("10:0") + b"\1\1"):
+        for text in ("", "x", e(1, 0, "G"), e(1, 16, "-"), e(1, 16, "G")):
+            intake(16, where, text, 4)
+    then("13 before 7, 8 and 9; 14 before them")
+    intake(16, "11:0", e(1, 16, "G") + "x", 13)
+    intake(16, "11:0", e(1, 16, "-"), 14)
+    intake(16, "11:0", e(1, 0, "G"), 14)
+    intake(16, "10:9", e(1, 9, "G"), 14)
+    intake(16, "/", e(20, 16, "G") + "x", 13)
+    intake(16, "/", e(20, 16, "G", e(1, 0, "G")), 14)
+    intake(16, "/", e(20, 16, "G", e(1, 16, "-")), 14)
+    then("7: a parent that is not there, and of a label that is above, and beside")
+    intake(16, "11:0", e(1, 16, "G"), 7)
+    intake(16, "11:0/12:16", e(1, 16, "G"), 7)
+    intake(16, "10:9", e(1, 16, "G"), 7)
+    intake(0, "20:16", e(1, 0, "G"), 7)
+    intake(9, "20:16", e(1, 9, "G"), 7)
+    then("8 for the top element alone")
+    intake(16, "/", e(20, 16, "G"), 8)
+    intake(16, "/", e(20, 16, "T", "x", e(1, 16, "G")), 8)
+    intake(16, "10:0", e(20, 16, "G", e(20, 16, "G")), 0, 2)
+    intake(16, "10:0/20:16", e(20, 16, "G"), 8)
+    show()
+    then("7 before 9, 8 before 9, and 9 with each of 13 and 14")
+    intake(16, "11:0", many(16, 33), 7)
+    intake(16, "/", many(16, 33, 20), 8)
+    intake(16, "/", many(16, 33), 9)
+    intake(16, "/", many(16, 33) + "x", 13)
+    intake(16, "/", many(16, 33).replace("</e32></e1000>", "</e32>%s</e1000>" % e(33, 0, "G")), 14)
+    show()
+
+
+@case("six steps in all, below parents of 0 to 6 steps")
+def intake_depth():
+    six = "1:0/1:1/1:1/1:3/1:11/1:27".split("/")
+    for n, label in enumerate((0, 1, 1, 3, 11, 27), 1):
+        insert(label, "/".join(six[:n]), G, 0)
+    for n in range(7):
+        parent = "/".join(six[:n]) or "/"
+        intake(27, parent, deep(2, 27, 7 - n), 13)
+        intake(27, parent, e(3, 27, "G", deep(3, 27, 7 - n)), 13)
+        if n < 6:
+            read_back(27, parent, "/".join(six[:n] + ["2:27"]), deep(2, 27, 6 - n), 6 - n)
+    intake(27, "/".join(six), e(2, 27, "G"), 13)
+    intake(27, "2:0/2:0/2:0/2:0/2:0/2:0", e(2, 27, "G"), 13)
+    intake(27, "2:0/2:0/2:0/2:0/2:0", e(2, 27, "G"), 7)
+    view_lines(27, "/", 27)
+    show()
+    then("the seventh step behind a branch of six, and a text 100 deep, closed and not")
+    intake(0, "/", e(2, 0, "G", deep(1, 0, 5), deep(3, 0, 6)), 13)
+    intake(0, "/", e(2, 0, "G", deep(1, 0, 4), deep(2, 0, 5), deep(3, 0, 1)), 0, 11)
+    intake(0, "/", deep(4, 0, 100), 13)
+    intake(0, "/", deep(4, 0, 100)[:-500], 13)
+    show()
+
+
+@case("13: siblings equal in name and label")
+def intake_equal():
+    def group(name, *inside):
+        """A group of label 0."""
+        return e(name, 0, "G", *inside)
+
+    intake(0, "/", group(1, group(2), group(2)), 13)
+    intake(0, "/", group(1, group(2), group(3), group(2)), 13)
+    intake(0, "/", group(1, group(2, group(4, group(5))), group(3), group(2)), 13)
+    intake(0, "/", group(1, group(2), e(2, 0, "M", "1")), 13)
+    intake(0, "/", group(1, e(2, 0, "T", "a"), e(2, 0, "T", "b", group(3))), 13)
+    intake(0, "/", group(1, group(2), group(3, group(4), group(5, group(6), group(7), group(6)))), 13)
+    intake(0, "/", group(1, group(2, group(3), group(3)), group(4)), 13)
+    intake(0, "/", group(1, group(1, group(1, group(1, group(1, group(6), group(6)))))), 13)
+    intake(0, "/", group(1, e(2, 0, "-"), e(2, 0, "-")), 13)
+    intake(0, "/", group(1, e(2, 0, "-"), group(2)), 13)
+    intake(0, "/", group(1, e(2, 16, "G"), e(2, 16, "G")), 13)
+    then("siblings equal in name only, in label only, and elements of one name that are no siblings")
+    intake(0, "/", group(1, group(2), e(2, 16, "G")), 14)
+    intake(0, "/", group(1, e(2, 1, "G"), e(2, 2, "G")), 14)
+    intake(0, "/", group(1, group(2), group(258), group(514)), 0, 4)
+    intake(0, "/", group(2, group(3, group(5)), group(4, group(5)), group(5), group(2, group(2), group(3))), 0, 9)
+    intake(0, "1:0", group(1, group(1, group(1)), group(2)), 0, 4)
+    show()
+
+
+@case("equal siblings among 33, 40 and 600, and none equal")
+def intake_many():
+    insert(0, "1000:0", G, 0)
+    for count, pairs in (
+        (33, ((1, 2), (1, 33), (32, 33), (31, 32), (17, 33))),
+        (40, ((1, 2), (1, 40), (1, 33), (32, 33), (33, 34), (33, 40), (39, 40))),
+        (600, ((1, 600), (599, 600))),
+    ):
+        for one, other in pairs:
+            names = list(range(1, count + 1))
+            names[other - 1] = one
+            intake(0, "/", e(999, 0, "G", *groups(0, names)), 13)
+    intake(0, "/", e(999, 0, "G", *groups(0, range(1, 34))), 9)
+    intake(0, "/", e(1000, 0, "G", *groups(0, range(1, 41))), 8)
+    intake(0, "1:0", e(999, 0, "G", *groups(0, range(1, 41))), 7)
+    intake(0, "/", e(999, 0, "G", *groups(0, range(600, 0, -1))), 9)
+    then("equal siblings behind a branch with 33 elements, and inside it")
+    names = range(1, 34)
+    intake(0, "/", e(999, 0, "G", e(1, 0, "G", *groups(0, names)), e(2, 0, "G"), e(1, 0, "G")), 13)
+    intake(0, "/", e(999, 0, "G", e(1, 0, "G", *groups(0, names), e(33, 0, "M", "1")), e(2, 0, "G")), 13)
+    intake(0, "/", e(999, 0, "G", e(1, 0, "G", *groups(0, names)), e(2, 0, "G", *groups(0, names)), e(3, 0, "G")), 9)
+    show()
+
+
+@case("slips behind more than 32 elements")
+def intake_long():
+    def forty(inside="", end="</e1000>"):
+        """A group with 39 groups inside, and what else is in it."""
+        return many(16, 40).replace("</e1000>", inside + end)
+
+    intake(16, "/", forty(), 9)
+    for text in (forty() + "x", forty() + e(1, 16, "G"), forty("x"), forty("", "</e100>"), forty("", "</e1000")):
+        intake(16, "/", text, 13)
+    for last in (e(0, 16, "G"), e(40, 32, "G"), e(40, 16, "M"), e(40, 16, "T", "x" * 17), e(1, 16, "G"), deep(40, 16, 6)):
+        intake(16, "/", forty(last), 13)
+    for last in (e(40, 0, "G"), e(40, 16, "-")):
+        intake(16, "/", forty(last), 14)
+        intake(16, "/", forty(last) + " ", 13)
+    then("the same where the parent is not in view, and where the top element is live")
+    intake(16, "1:0", forty(), 7)
+    intake(16, "1:0", forty(e(40, 0, "G")), 14)
+    intake(16, "1:0", forty() + "x", 13)
+    insert(16, "1000:16", G, 0)
+    intake(16, "/", forty(), 8)
+    intake(16, "/", forty(e(40, 0, "G")), 14)
+    intake(16, "/", forty() + "x", 13)
+    show()
+
+
+@case("siblings in any order are kept in path order")
+def intake_siblings():
+    orders = ((1, 2, 3), (1, 3, 2), (2, 1, 3), (2, 3, 1), (3, 1, 2), (3, 2, 1))
+    for label, order in enumerate(orders):
+        inside = [e(name, label, "M", str(name), e(9, label, "G"), e(8, label, "G")) for name in order]
+        intake(label, "/", e(10, label, "G", *inside), 0, 10)
+        inside = [e(name, label, "M", str(name), e(8, label, "G"), e(9, label, "G")) for name in (1, 2, 3)]
+        markup_of(label, "10:%d" % label, e(10, label, "G", *inside))
+    show()
+    then("names in path order are compared as numbers")
+    names = (65535, 10, 256, 9, 100, 255, 2, 257, 1)
+    intake(31, "/", e(10, 31, "G", *groups(31, names)), 0, 10)
+    markup_of(31, "10:31", e(10, 31, "G", *groups(31, sorted(names))))
+
+
+@case("an XML intake among elements that are there, and calls after it")
+def intake_among():
+    for where in ("5:0", "10:0", "10:0/10:0", "10:0/30:0", "10:0/30:0/1:0", "15:0"):
+        insert(0, where, G, 0)
+    insert(16, "10:0/20:16", G, 0)
+    intake(0, "10:0", e(20, 0, "M", "100", e(2, 0, "M", "149", e(3, 0, "T", "in")), e(1, 0, "G")), 0, 4)
+    intake(0, "/", e(1, 0, "G", e(1, 0, "G")), 0, 2)
+    intake(0, "/", e(20, 0, "G"), 0, 1)
+    show()
+    lines = ["VIEW→16→9", "1→10→0→P→G→-", "2→10→0→P→G→-", "2→20→0→P→M→100", "3→1→0→P→G→-", "3→2→0→P→M→149", "4→3→0→P→T→in"]
+    view(16, "10:0", 200, 0, 129, lines + ["2→20→16→P→G→-", "2→30→0→P→G→-", "3→1→0→P→G→-"])
+    grade(16, "10:0/20:0", "10:0/20:0/2:0", 10, 0, 4, 9)
+    insert(0, "10:0/20:0/2:0", G, 8)
+    insert(0, "10:0/20:0/2:0/4:0", G, 0)
+    insert(16, "10:0/20:0/2:0/3:16", G, 0)
+    update(0, "10:0/20:0/2:0/3:0", T("out"), 0, 1)
+    intake(0, "10:0/20:0", e(2, 0, "G"), 8)
+    delete(0, "10:0/20:0/2:0", 0, 3)
+    intake(0, "10:0/20:0", e(2, 0, "G", e(3, 0, "G")), 0, 2)
+    delete(0, "10:0/20:0", 0, 4)
+    intake(0, "10:0/20:0", e(2, 0, "G"), 7)
+    intake(16, "10:0/20:0", e(2, 16, "G"), 0, 1)
+    show()
+
+
+@case("XML intakes below a removed parent, and where a removed element stands")
+def intake_removed():
+    insert(0, "10:0", G, 0)
+    insert(0, "10:0/11:0", G, 0)
+    insert(16, "10:0/11:0/20:16", M(1), 0)
+    delete(0, "10:0", 0, 2)
+    intake(0, "10:0", e(1, 0, "G"), 7)
+    intake(9, "10:0", e(1, 9, "G"), 7)
+    intake(24, "10:0", e(1, 24, "G"), 0, 1)
+    intake(16, "10:0", e(21, 16, "M", "5", e(22, 16, "G")), 0, 2)
+    intake(16, "10:0/11:0", e(20, 16, "G"), 8)
+    intake(16, "10:0/11:0", e(19, 16, "T", "x"), 0, 1)
+    e11 = e(11, 0, "-", e(19, 16, "T", "x"), e(20, 16, "M", "1"))
+    e21 = e(21, 16, "M", "5", e(22, 16, "G"))
+    markup_of(16, "/", e(10, 0, "-", e11, e21))
+    show()
+    then("the removed elements taken in again, with what survived below them")
+    intake(0, "/", e(10, 0, "T", "SLEEVE", e(12, 0, "G")), 0, 2)
+    markup_of(0, "/", e(10, 0, "T", "SLEEVE", e(12, 0, "G")))
+    markup_of(16, "/", e(10, 0, "T", "SLEEVE", e11, e(12, 0, "G"), e21))
+    intake(0, "10:0", e(11, 0, "G"), 0, 1)
+    e11 = e(11, 0, "G", e(19, 16, "T", "x"), e(20, 16, "M", "1"))
+    markup_of(16, "/", e(10, 0, "T", "SLEEVE", e11, e(12, 0, "G"), e21))
+    show()
+
+
+@case("9: XML intakes into a partition that becomes full and one that would hold 33")
+def intake_full():
+    intake(0, "/", many(0, 33), 9)
+    intake(0, "/", many(0, 32), 0, 32)
+    intake(0, "/", e(1, 0, "G"), 9)
+    intake(0, "1000:0", e(99, 0, "G"), 9)
+    intake(0, "1000:0", e(31, 0, "G"), 8)
+    show()
+    then("another label's, below it")
+    intake(16, "1000:0", many(16, 32), 0, 32)
+    intake(16, "1000:0/1:0", e(1, 16, "G"), 9)
+    view_lines(16, "/", 64)
+    then("after deletes of one, two and three elements")
+    delete(0, "1000:0/5:0", 0, 1)
+    intake(0, "/", e(1, 0, "G", e(1, 0, "G")), 9)
+    intake(0, "1000:0", e(5, 0, "T", "five"), 0, 1)
+    delete(0, "1000:0/5:0", 0, 1)
+    delete(0, "1000:0/6:0", 0, 1)
+    intake(0, "1000:0/7:0", deep(5, 0, 3), 9)
+    intake(0, "1000:0/7:0", deep(5, 0, 2), 0, 2)
+    intake(0, "/", e(1, 0, "G"), 9)
+    delete(0, "1000:0/7:0", 0, 3)
+    intake(0, "/", e(2000, 0, "G", e(2, 0, "G"), e(1, 0, "G")), 0, 3)
+    insert(0, "1:0", G, 9)
+    show()
+
+
+@case("removed elements are not counted by XML intakes")
+def intake_not_counted():
+    intake(0, "/", many(0, 32), 0, 32)
+    for n in range(1, 32):
+        intake(16, "1000:0/%d:0" % n, e(1, 16, "G"), 0, 1)
+    delete(0, "1000:0", 0, 32)
+    view_lines(16, "/", 63)
+    intake(0, "/", many(0, 33, 999), 9)
+    intake(0, "/", many(0, 32, 999), 0, 32)
+    intake(0, "/", e(1000, 0, "G"), 9)
+    intake(16, "999:0", e(1, 16, "G", e(2, 16, "G")), 9)
+    intake(16, "1000:0", e(1, 16, "G"), 0, 1)
+    view_lines(16, "/", 96)
+    show()
+
+
+@case("an XML intake of 32 texts with sixteen escapes each")
+def intake_longest():
+    inside = [e(name, 31, "T", "&amp;" * 16) for name in range(65505, 65536)]
+    intake(31, "/", e(65535, 31, "T", "&gt;" * 16, *reversed(inside)), 0, 32)
+    markup_of(31, "/", e(65535, 31, "T", "&gt;" * 16, *inside))
+    show()
+
+
+@case("what 0 and 9 see and are answered as 16 takes styles in and is corrupted")
+def intake_lower():
+    insert(0, "10:0", T("low"), 0)
+    insert(9, "10:0/20:9", M(1), 0)
+
+    def as_it_was():
+        """The XML of 0 and the XML of 9, and what XML intakes and a view by them answer."""
+        markup_of(0, "/", e(10, 0, "T", "low"))
+        markup_of(9, "/", e(10, 0, "T", "low", e(20, 9, "M", "1")))
+        intake(0, "10:16", e(1, 0, "G"), 7)
+        intake(9, "10:0/30:16", e(1, 9, "G"), 7)
+        intake(0, "/", e(10, 0, "G"), 8)
+        view(0, "10:0/20:16", 100, 7)
+        intake(9, "/", many(9, 31), 0, 31)
+        intake(9, "/", e(1, 9, "G"), 9)
+        delete(9, "1000:9", 0, 31)
+
+    as_it_was()
+    intake(16, "/", e(10, 16, "T", "high", e(20, 16, "G")), 0, 2)
+    intake(16, "10:0", e(30, 16, "G", e(1, 16, "M", "1")), 0, 2)
+    as_it_was()
+    intake(16, "10:0", many(16, 28), 0, 28)
+    intake(16, "/", e(1, 16, "G"), 9)
+    as_it_was()
+    show()
+    corrupt(PARTITION * 16 + 2, b"\1")
+    as_it_was()
+    intake(16, "/", e(1, 16, "G"), 3)
+    intake(16, "/", "x", 3)
+    intake(31, "0:0", "x", 3)
+    show()
+    then("a style of a lower label where higher versions are")
+    intake(0, "10:0", e(30, 0, "G", e(1, 0, "G")), 0, 2)
+    intake(0, "/", e(1000, 0, "G", e(1, 0, "G")), 0, 2)
+    intake(9, "10:0/30:0", e(1, 9, "G"), 0, 1)
+    show()
+
+
+@case("1, 2 and 3 of an XML intake before all others")
+def intake_barred():
+    insert(0, "10:0", G, 0)
+    for text in (e(1, 0, "G"), e(1, 0, "-"), "x", ""):
+        intake(0, "/", text, 1, 0, 41087)
+        intake(0, "0:0", text, 1, 0, 41089)
+        intake(32, "10:0", text, 1, 0, 0)
+        intake(32, "10:0", text, 2)
+        intake(256, "0:0", text, 2)
+        intake(4294967295, "/", text, 2)
+    corrupt(1283, b"\1")
+    for text in (e(1, 0, "G"), e(1, 0, "-"), "x", ""):
+        intake(0, "/", text, 3)
+        intake(31, "0:0", text, 3)
+        intake(33, "/", text, 2)
+    show()
+
+
+# ---------------------------------------------------------------------------------------------------------------------
 # The table: each number on each call that can give it, and which comes first.
 
 
@@ -1455,6 +2077,10 @@ CHOSEN = {
     "sequence 3048 after request 3": "fb1a38329836140bbfb21c96e8d24f2bc4b9f6858209f5219546327b745b2ca8",
     "sequence 3169 after request 3": "b0f4d08734f16eef5585286fd84fe023de125d33b32a84afc74f39579a9514a9",
     "sequence 3174 after request 3": "70eb0019a40b8fbe28da941efb5d97d1fcd2db1854dfda04dafa2f35de4b5149",
+    "sequence 5084 after request 5": "001053794b7bd89a737ea2b06cfcd2d05c5ad6c3e22f90232583d8ffb6d28262",
+    "sequence 5123 after request 5": "b0083b28a94750b34e37df0fdc82d892b7d3ba562208adda50e79caa58f53105",
+    "sequence 5216 after request 5": "a692fc623e4281d3a5aabe38ef2976147c6dfb745a03ff1c08c07d0fa9a5e387",
+    "sequence 5218 after request 5": "dd335b238ed78935b1f6df16aa0ea29b454c7353eeed83bb9bcb701a5daf80fb",
 }
 
 
@@ -1506,6 +2132,10 @@ def event(line):
         hold(line["written"], "")
         grade(line["subject"], base, top, line["n"], line["number"], *line["count"])
         return
+    if line["call"] == "takein":
+        hold(line["written"], "")
+        intake(line["subject"], bytes.fromhex(line["path"]), bytes.fromhex(line["text"]), line["number"], line["count"])
+        return
     letter = {"view": "V", "xml": "M", "insert": "I", "update": "U", "delete": "D"}[line["call"]]
     where, value = bytes.fromhex(line["path"]), bytes.fromhex(line.get("value", ""))
     third = line.get("outlen", 0) if letter in "VM" else line.get("kind", 0)
@@ -1523,8 +2153,8 @@ def from_records(stdin):
     """The sequences that stand in stdin, record by record from the first one on."""
     at = stdin.index(b"sequence ") - 16
     while at < len(stdin):
-        letter, m, n = chr(stdin[at]), stdin[at + 1], stdin[at + 2]
-        size, subject, third = struct.unpack("<III", stdin[at + 4 : at + 16])
+        head, m, n, size, subject, third = struct.unpack("<BBHIII", stdin[at : at + 16])
+        letter = chr(head)
         first, second = stdin[at + 16 : at + 16 + m], stdin[at + 16 + m : at + 16 + m + n]
         if letter == "N":
             name = first.decode().rstrip("\n")
@@ -1555,6 +2185,7 @@ def write(name, raw):
 VIEWS = {0, 1, 2, 3, 4, 7, 10}
 NUMBERS = {"V": VIEWS, "M": VIEWS, "I": set(range(10)), "U": set(range(8)), "D": {0, 1, 2, 3, 4, 6, 7}}
 NUMBERS["G"] = {0, 1, 2, 3, 4, 7, 11, 12}
+NUMBERS["T"] = {0, 1, 2, 3, 4, 7, 8, 9, 13, 14}
 
 
 def main(words):

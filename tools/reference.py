@@ -1,9 +1,11 @@
 """Documents 01 and 02 as a Python program, written from the documents alone: the reference that expected output comes from.
 
-It holds labels, paths, values, the bytes of slots, partitions and stores, what is in view, how it is listed and how it is written
-as XML, and the six calls on a model of the store: the four of document 01, Update as document 02's request 2/14 amends it, the
-view as XML of request 1/14 and the even grade of request 3/14. It shares no code with the crates, and runs by no part of them.
+It holds labels, paths, values, the bytes of slots, partitions and stores, what is in view, how it is listed, how it is written as
+XML and how such XML is read, and the seven calls on a model of the store: the four of document 01, Update as document 02's
+request 2/14 amends it, the view as XML of request 1/14, the even grade of request 3/14 and the XML intake of request 5/14. It
+shares no code with the crates, and runs by no part of them.
 """
+import re
 import struct
 
 STORE = 41088
@@ -122,6 +124,54 @@ def element(path, contents):
     below = b"".join(element(p, contents) for p in sorted(contents) if p[:-1] == path)
     tag = b'<e%d label="%d" preserve="%s" kind="%s">' % (name, label, preserve, letter)
     return tag + escaped(value) + below + b"</e%d>" % name
+
+
+# an element's tag with the characters behind it, up to the next tag: name, label, mark, the kind's letter, the value
+TAG = re.compile(rb'<e([1-9][0-9]{0,4}) label="(0|[1-9][0-9]?)" preserve="(PRESENT|REMOVED)" kind="([GMT-])">([^<]*)')
+
+
+def unescaped(written):
+    """The text that XML writes with these characters."""
+    return written.replace(b"&lt;", b"<").replace(b"&gt;", b">").replace(b"&amp;", b"&")
+
+
+def read_value(letter, written):
+    """The kind and the value that XML writes with a letter and some characters; None if it writes no allowed value so."""
+    if letter == b"G":
+        return (0, b"") if written == b"" else None
+    if letter == b"M":
+        fits = re.fullmatch(rb"0|-?[1-9][0-9]{0,9}", written) and -(2**31) <= int(written) < 2**31
+        return (1, struct.pack("<i", int(written))) if fits else None
+    value = unescaped(written)
+    return (2, value) if letter == b"T" and good_value(2, value) and escaped(value) == written else None
+
+
+def read_element(text, at, above, contents):
+    """Reads the element of XML at a place: the place behind it, or None if the text is not in form there. Into the contents come
+    the element and those inside it, each path with its kind and value, or with None where it is removed."""
+    tag = TAG.match(text, at)
+    if tag is None or len(above) == 6:
+        return None
+    name, label, mark, letter, written = tag.groups()
+    path = above + ((int(name), int(label)),)
+    removed = (mark, letter, written) == (b"REMOVED", b"-", b"")
+    content = read_value(letter, written) if mark == b"PRESENT" else None
+    if int(name) > 65535 or int(label) > 31 or path in contents or (content is None and not removed):
+        return None
+    contents[path] = content
+    at, end = tag.end(), b"</e%s>" % name
+    while not text.startswith(end, at):
+        at = read_element(text, at, path, contents)
+        if at is None:
+            return None
+    return at + len(end)
+
+
+def read_style(text, parent):
+    """What a text sends below the parent, each path with its kind and value or with None, the top element first; None if the text
+    is not one element in form."""
+    contents = {}
+    return contents if read_element(text, 0, parent, contents) == len(text) else None
 
 
 class Model:
@@ -250,3 +300,30 @@ class Model:
             return number, 0, 0
         start, end = map(self.measure, paths)
         return 0, *divmod(end - start, n)
+
+    def intake_refusal(self, subject, raw, text):
+        """The number of the first cause that applies to an XML intake, else 0; and the elements that the text sends."""
+        number = self.barred(subject)
+        if number != 0:
+            return number, {}
+        parent = read_path(raw)
+        if parent is None:
+            return 4, {}
+        sent = read_style(text, parent)
+        if sent is None:
+            return 13, {}
+        if any(path[-1][1] != subject or content is None for path, content in sent.items()):
+            return 14, sent
+        if not self.sees(subject, parent):
+            return 7, sent
+        if self.is_live(next(iter(sent))):
+            return 8, sent
+        return 9 if len(self.parts[subject]) + len(sent) > 32 else 0, sent
+
+    def insert_xml(self, subject, raw, text):
+        """The call T, the XML intake of a style below a parent: its number and its count."""
+        number, sent = self.intake_refusal(subject, raw, text)
+        if number != 0:
+            return number, 0
+        self.parts[subject].update(sent)
+        return 0, len(sent)

@@ -1,6 +1,6 @@
 /* Measures the stack that the calls take, on the longest listing and the longest XML known: each label has 32 elements, each of
- * six steps, and those above it are removed wherever the label dominates another; each text is all & characters. The last line is
- * 'N passed, N failed'. */
+ * six steps, and those above it are removed wherever the label dominates another; each text is all & characters. XML intakes are
+ * measured with the partition of label 31 empty. The last line is 'N passed, N failed'. */
 #define _XOPEN_SOURCE 700
 #include "dossier.h"
 
@@ -9,12 +9,15 @@
 #include <stdlib.h>
 #include <string.h>
 
-/* The stack of a measured call, what it is filled with, and what the header says that a view, one as XML and another call
- * take. */
-enum { STACK = 65536, FILL = 0xa5, VIEW_MOST = 6 * 1024, XML_MOST = 8 * 1024, OTHER_MOST = 1024 };
+/* The stack of a measured call, what it is filled with, and what the header says that a view, one as XML, an XML intake and
+ * another call take. */
+enum { STACK = 65536, FILL = 0xa5, VIEW_MOST = 6 * 1024, XML_MOST = 8 * 1024, INTAKE_MOST = 8 * 1024, OTHER_MOST = 1024 };
 
 /* The bytes of the longest listing and of the longest XML known, the elements of each label, and the first name. */
 enum { LONGEST = 114861, LONGEST_XML = 414816, EACH = 32, LABELS = 32, STEP = 3, ABOVE = 5, FIRST_NAME = 10000 };
+
+/* How many elements stand beside each other in a text that is refused: more than the keys that are kept of one group. */
+enum { GROUPED = 600 };
 
 static uint8_t store[DOSSIER_STORE_BYTES];
 static uint8_t output[DOSSIER_XML_BYTES_MAX];
@@ -24,6 +27,10 @@ static _Alignas(4096) uint8_t stack[STACK];
 static uint8_t path[STEP * (ABOVE + 1)];
 static uint8_t other_path[STEP * (ABOVE + 1)];
 static struct dossier_answer answer;
+
+/* A text to be taken in, and its length. */
+static char sent[524288];
+static size_t sent_length;
 
 /* How many checks held and how many did not. */
 static int passed, failed;
@@ -99,7 +106,7 @@ static int fill(void)
 }
 
 /* The calls that are measured: none, for what a thread takes itself, a view of all, one as XML, an update, a delete, an insert,
- * a grade between two measures and one between two removed elements, which is refused. */
+ * a grade between two measures, one between two removed elements, which is refused, and an XML intake of the text. */
 static void *no_call(void *unused)
 {
     return unused;
@@ -145,6 +152,40 @@ static void *call_grade_removed(void *unused)
 {
     answer.number = dossier_grade(store, sizeof store, 31, path, STEP, other_path, STEP, 64).number;
     return unused;
+}
+
+static void *call_insert_xml(void *unused)
+{
+    answer = dossier_insert_xml(store, sizeof store, 31, path, 0, (const uint8_t *)sent, sent_length);
+    return unused;
+}
+
+/* Puts a tag behind the text: the start tag of a text of 16 & characters, with its value, or an end tag. */
+static void put_tag(int is_start, int name)
+{
+    static const char value[] = "&amp;&amp;&amp;&amp;&amp;&amp;&amp;&amp;&amp;&amp;&amp;&amp;&amp;&amp;&amp;&amp;";
+    char *end = sent + sent_length;
+    size_t room = sizeof sent - sent_length;
+    int length = is_start ? snprintf(end, room, "<e%d label=\"31\" preserve=\"PRESENT\" kind=\"T\">%s", name, value)
+                          : snprintf(end, room, "</e%d>", name);
+    sent_length += (size_t)length;
+}
+
+/* Makes a text of six steps: inside each of the first five elements stand so many, all but the last with nothing inside. */
+static void make_text(int each)
+{
+    sent_length = 0;
+    put_tag(1, FIRST_NAME);
+    for (int depth = 0; depth < ABOVE; depth++) {
+        for (int at = 1; at < each; at++) {
+            put_tag(1, FIRST_NAME + at);
+            put_tag(0, FIRST_NAME + at);
+        }
+        put_tag(1, FIRST_NAME);
+    }
+    for (int depth = 0; depth <= ABOVE; depth++) {
+        put_tag(0, FIRST_NAME);
+    }
 }
 
 /* Makes the element of label 31 with this name a measure and puts its path into the path. */
@@ -208,6 +249,12 @@ int main(void)
     check("two measures are there", make_measures());
     measure("grade", call_grade, DOSSIER_DONE, base, OTHER_MOST);
     measure("grade, refused", call_grade_removed, DOSSIER_REFUSED_NO_MEASURE, base, OTHER_MOST);
+    memset(store + 31 * DOSSIER_PARTITION_BYTES, 0, DOSSIER_PARTITION_BYTES);
+    make_text(GROUPED);
+    measure("XML intake, refused", call_insert_xml, DOSSIER_REFUSED_FULL, base, INTAKE_MOST);
+    make_text(EACH / (ABOVE + 1) + 1);
+    measure("XML intake", call_insert_xml, DOSSIER_DONE, base, INTAKE_MOST);
+    check("most of a partition is taken in", answer.count == 31);
     printf("%d passed, %d failed\n", passed, failed);
     return failed == 0 ? 0 : 1;
 }

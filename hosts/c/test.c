@@ -1,5 +1,5 @@
-/* Tests the C declarations: answers, listings, XML, what refusals leave untouched, what an update keeps, and grades. The last
- * line is 'N passed, N failed'. */
+/* Tests the C declarations: answers, listings, XML, what refusals leave untouched, what an update keeps, grades, and styles taken
+ * in as XML. The last line is 'N passed, N failed'. */
 #include "dossier.h"
 
 #include <stdio.h>
@@ -14,7 +14,7 @@ enum { FILL = 0xa5 };
 /* The store, with one byte behind it so that a longer one can be lent; a copy of it; an output. */
 static uint8_t store[DOSSIER_STORE_BYTES + 1];
 static uint8_t kept[DOSSIER_STORE_BYTES + 1];
-static uint8_t output[512];
+static uint8_t output[2048];
 
 /* How many checks held and how many did not. */
 static int passed, failed;
@@ -130,6 +130,11 @@ static struct dossier_grade grade(uint32_t subject, const uint8_t *base, size_t 
                                   size_t top_length, uint32_t n)
 {
     return dossier_grade(store, DOSSIER_STORE_BYTES, subject, base, base_length, top, top_length, n);
+}
+
+static struct dossier_answer insert_xml(uint32_t subject, const uint8_t *parent, size_t length, const char *text)
+{
+    return dossier_insert_xml(store, DOSSIER_STORE_BYTES, subject, parent, length, (const uint8_t *)text, strlen(text));
 }
 
 /* Inserts a group. */
@@ -286,6 +291,7 @@ static void test_store_length(void)
         refused("update: length", dossier_update(store, length, 0, LENT(p10), 0, none, 0), 1);
         refused("delete: length", dossier_delete(store, length, 0, LENT(p10)), 1);
         not_graded("grade: length", dossier_grade(store, length, 40, LENT(p10), LENT(p10), 0), 1);
+        refused("XML intake: length", dossier_insert_xml(store, length, 40, p10, 2, none, 0), 1);
     }
 }
 
@@ -302,6 +308,7 @@ static void test_subject(void)
         refused("update: subject", update(subjects[at], LENT(p10), 0, none, 0), 2);
         refused("delete: subject", delete(subjects[at], LENT(p10)), 2);
         not_graded("grade: subject", grade(subjects[at], LENT(p10), LENT(p10), 0), 2);
+        refused("XML intake: subject", insert_xml(subjects[at], p10, 2, ""), 2);
     }
 }
 
@@ -317,6 +324,7 @@ static void test_not_well_formed(void)
     refused("update: partition 16", update(24, LENT(p10), 0, none, 0), 3);
     refused("delete: partition 16", delete(17, LENT(p10)), 3);
     not_graded("grade: partition 16", grade(18, LENT(p10), LENT(p10), 0), 3);
+    refused("XML intake: partition 16", insert_xml(19, p10, 2, ""), 3);
     not_graded("grade: 15 does not dominate it", grade(15, LENT(p10), LENT(p10), 1), 7);
     done("15 does not dominate it", view(15, none, 0, sizeof output), 10);
 }
@@ -343,6 +351,11 @@ static void test_path(void)
     not_graded("grade: labels not rising", grade(9, LENT(falling), LENT(p10), 1), 4);
     not_graded("grade: two bytes, the top's", grade(0, LENT(p10), p10, 2, 1), 4);
     not_graded("grade: seven steps", grade(0, LENT(seven), none, 0, 1), 4);
+    refused("XML intake: name 0", insert_xml(0, LENT(name_0), ""), 4);
+    refused("XML intake: label 32", insert_xml(0, LENT(label_32), ""), 4);
+    refused("XML intake: labels not rising", insert_xml(9, LENT(falling), ""), 4);
+    refused("XML intake: two bytes", insert_xml(0, p10, 2, ""), 4);
+    refused("XML intake: seven steps", insert_xml(0, LENT(seven), ""), 4);
 }
 
 /* 5: what is no value. A kind counts on all its bits: 256, 257 and 258 would be kinds in eight. */
@@ -499,6 +512,98 @@ static void test_grade_overlap(void)
     graded("one path inside the store", grade(0, store + 5, 3, store + 5, 3, 4), 0, 0);
 }
 
+/* A start tag of label 16, an end tag, a group with contents, and the start tag of the measure 3. */
+#define OPEN(name, kind) "<e" name " label=\"16\" preserve=\"PRESENT\" kind=\"" kind "\">"
+#define CLOSE(name) "</e" name ">"
+#define GROUP(name, inside) OPEN(name, "G") inside CLOSE(name)
+#define MEASURE OPEN("3", "M")
+
+/* Sixteen & characters. */
+#define FOUR_AMPS "&amp;&amp;&amp;&amp;"
+#define AMPS FOUR_AMPS FOUR_AMPS FOUR_AMPS FOUR_AMPS
+
+/* A group 50 of a label with groups inside it of these names, up to the last or down to it, as a text. */
+static const char *sent_groups(int label, int first, int last)
+{
+    static char text[4096];
+    int step = first <= last ? 1 : -1;
+    int length = snprintf(text, sizeof text, "<e50 label=\"%d\" preserve=\"PRESENT\" kind=\"G\">", label);
+    for (int name = first; name != last + step; name += step) {
+        length += snprintf(text + length, sizeof text - (size_t)length,
+                           "<e%d label=\"%d\" preserve=\"PRESENT\" kind=\"G\"></e%d>", name, label, name);
+    }
+    snprintf(text + length, sizeof text - (size_t)length, "</e50>");
+    return text;
+}
+
+/* A view as XML is what it must be. */
+static void sees_xml(const char *name, uint32_t subject, const uint8_t *path, size_t length, const char *xml)
+{
+    done(name, view_xml(subject, path, length, sizeof output), strlen(xml));
+    check(name, memcmp(output, xml, strlen(xml)) == 0);
+    memset(output, FILL, sizeof output);
+}
+
+/* The worked examples of XML intake, each on the store that the last one left. */
+static void test_intake(void)
+{
+    static const uint8_t p10_20_2[] = {10, 0, 0, 20, 0, 16, 2, 0, 16};
+    static const uint8_t p11[] = {11, 0, 0};
+    static const uint8_t six[] = {1, 0, 0, 2, 0, 0, 3, 0, 0, 4, 0, 0, 5, 0, 0, 6, 0, 0};
+    start();
+    done("insert 10:0", insert_group(0, LENT(p10)), 0);
+    done("a style", insert_xml(16, LENT(p10), GROUP("20", MEASURE "-150" CLOSE("3") OPEN("2", "T") "a &lt; b" CLOSE("2"))), 3);
+    done("16 escapes", insert_xml(16, none, 0, OPEN("1", "T") AMPS CLOSE("1")), 1);
+    done("the smallest measure", insert_xml(16, none, 0, MEASURE "-2147483648" CLOSE("3")), 1);
+    done("six steps", insert_xml(16, LENT(p10_20_2), GROUP("9", GROUP("9", GROUP("9", "")))), 3);
+    keep();
+    refused("8", insert_xml(16, LENT(p10), GROUP("20", "")), DOSSIER_REFUSED_LIVE);
+    refused("13, seven steps", insert_xml(16, LENT(p10_20_2), GROUP("9", GROUP("9", GROUP("9", GROUP("9", ""))))), 13);
+    refused("13, a parent of six steps", insert_xml(16, LENT(six), GROUP("4", "")), DOSSIER_REFUSED_FORM);
+    refused("7", insert_xml(16, LENT(p11), GROUP("4", "")), DOSSIER_REFUSED_ABSENT);
+    refused("14 before 7", insert_xml(15, LENT(p11), GROUP("4", "")), DOSSIER_REFUSED_NOT_OWN);
+    refused("7, what 0 does not see", insert_xml(0, LENT(p10_20), "<e4 label=\"0\" preserve=\"PRESENT\" kind=\"G\"></e4>"), 7);
+    refused("9, 8 and 32", insert_xml(16, none, 0, sent_groups(16, 1, 31)), DOSSIER_REFUSED_FULL);
+    sees_xml("the style reads back", 16, LENT(p10_20),
+             XML("16", GROUP("20", OPEN("2", "T") "a &lt; b" GROUP("9", GROUP("9", GROUP("9", ""))) CLOSE("2")
+                                       MEASURE "-150" CLOSE("3"))));
+    done("32 elements", insert_xml(17, none, 0, sent_groups(17, 31, 1)), 32);
+    keep();
+    refused("9, 32 and 1", insert_xml(17, none, 0, "<e51 label=\"17\" preserve=\"PRESENT\" kind=\"G\"></e51>"), 9);
+    done("a delete takes all 32", delete(17, (const uint8_t[]){50, 0, 17}, 3), 32);
+}
+
+/* 13: what is not in form. 14: a label that is not the subject's, and what is removed. */
+static void test_intake_text(void)
+{
+    static const char *const not_in_form[] = {
+        "", "<", GROUP("4", "") "\n", " " GROUP("4", ""), GROUP("4", "x"), GROUP("4", GROUP("1", "") "x"),
+        GROUP("4", "") GROUP("5", ""), GROUP("4", GROUP("1", "") GROUP("1", "")), GROUP("0", ""), GROUP("65536", ""),
+        GROUP("03", ""), OPEN("4", "G"), OPEN("4", "G") CLOSE("5"), OPEN("4", "-") CLOSE("4"), MEASURE CLOSE("3"),
+        MEASURE "-0" CLOSE("3"), MEASURE "2147483648" CLOSE("3"), OPEN("4", "T") CLOSE("4"), OPEN("4", "T") "a>b" CLOSE("4"),
+        OPEN("4", "T") "&quot;" CLOSE("4"), OPEN("4", "T") AMPS "&amp;" CLOSE("4"), XML("16", GROUP("4", "")),
+        "<e4 label=\"16\" preserve=\"PRESENT\" kind=\"G\"/>", "<e4  label=\"16\" preserve=\"PRESENT\" kind=\"G\"></e4>",
+        "<e4 label='16' preserve=\"PRESENT\" kind=\"G\"></e4>", "<e4 preserve=\"PRESENT\" label=\"16\" kind=\"G\"></e4>",
+        "<e4 label=\"016\" preserve=\"PRESENT\" kind=\"G\"></e4>", "<e4 label=\"32\" preserve=\"PRESENT\" kind=\"G\"></e4>",
+        "<e4 label=\"16\" preserve=\"REMOVED\" kind=\"G\"></e4>", "<e4 label=\"16\" preserve=\"REMOVED\" kind=\"-\">x</e4>",
+        "<e4 label=\"0\" preserve=\"PRESENT\" kind=\"G\"></e4> ",
+    };
+    static const char *const not_own[] = {
+        "<e4 label=\"0\" preserve=\"PRESENT\" kind=\"G\"></e4>", "<e4 label=\"16\" preserve=\"REMOVED\" kind=\"-\"></e4>",
+        GROUP("3", GROUP("1", "") "<e1 label=\"17\" preserve=\"PRESENT\" kind=\"G\"></e1>"),
+        GROUP("3", "<e1 label=\"16\" preserve=\"REMOVED\" kind=\"-\">" GROUP("2", "") "</e1>"),
+    };
+    start();
+    done("insert 10:0", insert_group(0, LENT(p10)), 0);
+    keep();
+    for (size_t at = 0; at < sizeof not_in_form / sizeof *not_in_form; at++) {
+        refused(not_in_form[at], insert_xml(16, LENT(p10), not_in_form[at]), DOSSIER_REFUSED_FORM);
+    }
+    for (size_t at = 0; at < sizeof not_own / sizeof *not_own; at++) {
+        refused(not_own[at], insert_xml(16, LENT(p9), not_own[at]), DOSSIER_REFUSED_NOT_OWN);
+    }
+}
+
 int main(void)
 {
     test_answer();
@@ -518,6 +623,8 @@ int main(void)
     test_grade();
     test_grade_refused();
     test_grade_overlap();
+    test_intake();
+    test_intake_text();
     printf("%d passed, %d failed\n", passed, failed);
     return failed == 0 ? 0 : 1;
 }

@@ -1,12 +1,15 @@
 """The calls through the module: document 01's example, every refusal, what is left untouched, what an update keeps, XML read
-back, and grades.
+back, grades, and styles taken in as XML.
 
     python3 hosts/python/test_dossier.py
 """
 import copy
 import doctest
 import multiprocessing
+import pathlib
 import pickle
+import subprocess
+import sys
 import unittest
 import xml.etree.ElementTree
 from decimal import Decimal
@@ -32,6 +35,66 @@ LISTING = b"VIEW\t16\t2\n1\t10\t0\tR\t-\t-\n2\t20\t16\tP\tM\t-150\n"
 
 # What a call that brings a value is given beside the path: a group.
 GROUP = (0, b"")
+
+# A text in form for label 0: a group.
+SENT = b'<e4 label="0" preserve="PRESENT" kind="G"></e4>'
+
+# Texts that are not in form; @ stands for what is between a name and a kind: label 16 and PRESENT.
+NOT_IN_FORM = [
+    '<e3@"G"><e1@"G"></e1><e1@"G"></e1></e3>',
+    '<e3@"G"><e1@"G"></e1><e2@"G"></e2><e1@"M">7</e1></e3>',
+    '<e3 label="16" preserve="REMOVED" kind="G"></e3>',
+    '<e3 label="16" preserve="REMOVED" kind="-">x</e3>',
+    '<e3@"-"></e3>',
+    '<e3 label="32" preserve="PRESENT" kind="G"></e3>',
+    '<e0@"G"></e0>',
+    '<e65536@"G"></e65536>',
+    '<e03@"G"></e03>',
+    '<e3 label="016" preserve="PRESENT" kind="G"></e3>',
+    '<e3@"M"></e3>',
+    '<e3@"M">-0</e3>',
+    '<e3@"M">+5</e3>',
+    '<e3@"M">007</e3>',
+    '<e3@"M">2147483648</e3>',
+    '<e3@"M">-2147483649</e3>',
+    '<e4@"T"></e4>',
+    '<e4@"T">a>b</e4>',
+    '<e4@"T">&quot;</e4>',
+    '<e4@"T">&#65;</e4>',
+    '<e4@"T">SEVENTEEN LETTERS</e4>',
+    '<e4@"T"><![CDATA[a]]></e4>',
+    '<e4@"T">\t</e4>',
+    '<e4@"T">ä</e4>',
+    '<e4@"G">x</e4>',
+    '<e4@"G"><e1@"G"></e1>x</e4>',
+    '<e4@"G"></e4>\n',
+    ' <e4@"G"></e4>',
+    '<e4@"G"/>',
+    "<e4@'G'></e4>",
+    '<e4@"G" ></e4>',
+    '<e4@"G"></e4 >',
+    '<e4  label="16" preserve="PRESENT" kind="G"></e4>',
+    '<e4 preserve="PRESENT" label="16" kind="G"></e4>',
+    '<e4@"G"></e5>',
+    '<e4@"G"></e04>',
+    '<e4@"G"></e4',
+    '<!-- --><e4@"G"></e4>',
+    '<?xml version="1.0"?><e4@"G"></e4>',
+    '<dossier subject="16"><e4@"G"></e4></dossier>',
+    "",
+    '<e4@"G"></e4><e5@"G"></e5>',
+    '<e60 label="0" preserve="PRESENT" kind="G"></e60> ',
+]
+
+# Texts in form with another label than 16, or with an element that is removed.
+NOT_OWN = [
+    '<e3@"G"><e1@"G"></e1><e1 label="17" preserve="PRESENT" kind="G"></e1></e3>',
+    '<e3@"G"><e1 label="16" preserve="REMOVED" kind="-"></e1></e3>',
+    '<e3 label="0" preserve="PRESENT" kind="G"></e3>',
+    '<e60@"G"><e61 label="0" preserve="PRESENT" kind="G"></e61></e60>',
+    '<e60 label="16" preserve="REMOVED" kind="-"></e60>',
+    '<e60 label="16" preserve="REMOVED" kind="-"><e61@"M">7</e61></e60>',
+]
 
 # What is no whole number, though some of it equals one or could be cut to one.
 NOT_WHOLE = [7.5, 1.0, float("nan"), Decimal(1), Fraction(1), 1j, "1", b"1", None]
@@ -108,6 +171,24 @@ def mixed():
     return store
 
 
+def sent(short):
+    """A text in which @ stands for what is between a name and a kind: label 16 and PRESENT."""
+    return short.replace("@", ' label="16" preserve="PRESENT" kind=')
+
+
+def sent_group(name, number, *inside):
+    """A group of a label with groups of these names inside it."""
+    groups = "".join(sent_group(other, number) for other in inside)
+    return f'<e{name} label="{number}" preserve="PRESENT" kind="G">{groups}</e{name}>'
+
+
+def with_style():
+    """A store with 10:0, a group."""
+    store = Store()
+    store.insert(label(0), path((10, 0)), Group())
+    return store
+
+
 def output(length=64):
     """An output full of FILL."""
     return bytearray([FILL]) * length
@@ -161,12 +242,17 @@ class CallTest(unittest.TestCase):
         self.assert_view_refused(number, store, subject, path)
         self.assert_grade_refused(number, store, subject, path, path, 1)
         self.assert_writers_refused(number, store, subject, path)
+        self.assert_refused(number, raw.insert_xml, store, subject, path, SENT)
 
     def assert_writers_refused(self, number, store, subject, path):
         """Insert, update and delete are refused by a number."""
         self.assert_refused(number, raw.insert, store, subject, path, *GROUP)
         self.assert_refused(number, raw.update, store, subject, path, *GROUP)
         self.assert_refused(number, raw.delete, store, subject, path)
+
+    def assert_intake_refused(self, number, store, subject, parent, text):
+        """An XML intake is refused by a number, with count 0, and leaves the store."""
+        self.assert_refused(number, raw.insert_xml, store, subject, parent, text.encode())
 
     def assert_raises_refusal(self, refusal, call, *arguments):
         """A typed call raises a refusal with its number and zeros behind it."""
@@ -395,6 +481,82 @@ class Grades(CallTest):
             self.assertEqual(raw.grade(lent, 0, inside[5:8], inside[5:8], 4), GradeAnswer(0, 0, 0))
 
 
+class Intake(CallTest):
+    """Styles taken in as XML."""
+
+    def test_worked_examples(self):
+        store = with_style()
+        style, sleeve = path((10, 0)), path((10, 0), (20, 16), (2, 16))
+        e9 = sent('<e9@"G"><e9@"G"><e9@"G"></e9></e9></e9>')
+        self.assertEqual(store.insert_xml(label(16), style, sent('<e20@"G"><e3@"M">-150</e3><e2@"T">a &lt; b</e2></e20>')), 3)
+        self.assertEqual(store.insert_xml(label(16), (), sent(f'<e1@"T">{"&amp;" * 16}</e1>')), 1)
+        self.assertEqual(store.insert_xml(label(16), (), sent('<e3@"M">-2147483648</e3>')), 1)
+        self.assertEqual(store.insert_xml(label(16), sleeve, e9), 3)
+        self.assertEqual(store.insert_xml(label(17), (), sent_group(50, 17, *range(31, 0, -1))), 32)
+        e20 = sent(f'<e20@"G"><e2@"T">a &lt; b{e9}</e2><e3@"M">-150</e3></e20>')
+        self.assertEqual(store.view_xml(label(16), path((10, 0), (20, 16))), f'<dossier subject="16">{e20}</dossier>')
+        e50 = sent_group(50, 17, *range(1, 32))
+        self.assertEqual(store.view_xml(label(17), path((50, 17))), f'<dossier subject="17">{e50}</dossier>')
+
+    def test_worked_refusals(self):
+        store = with_style()
+        store.insert_xml(label(16), path((10, 0)), sent('<e20@"G"><e2@"G"></e2></e20>'))
+        store.insert_xml(label(17), (), sent_group(50, 17, *range(1, 32)))
+        e4, six = sent_group(4, 16), path((1, 0), (2, 0), (3, 0), (4, 0), (5, 0), (6, 0))
+        e9 = sent('<e9@"G"><e9@"G"><e9@"G"><e9@"G"></e9></e9></e9></e9>')
+        for subject, parent, text, refusal in (
+            (16, path((10, 0)), sent_group(20, 16), Refusal.LIVE),
+            (16, (), sent(f'<e2@"T">{"&amp;" * 17}</e2>'), Refusal.FORM),
+            (16, six, e4, Refusal.FORM),
+            (16, path((10, 0), (20, 16), (2, 16)), e9, Refusal.FORM),
+            (16, path((11, 0)), e4, Refusal.ABSENT),
+            (16, path((11, 0)), sent_group(4, 0), Refusal.NOT_OWN),
+            (0, path((10, 0), (20, 16)), sent_group(4, 0), Refusal.ABSENT),
+            (16, path((0, 0)), "<", Refusal.PATH),
+            (16, (), sent_group(50, 16, *range(1, 32)), Refusal.FULL),
+            (17, (), sent_group(51, 17), Refusal.FULL),
+        ):
+            self.assert_raises_refusal(refusal, store.insert_xml, label(subject), parent, text)
+
+    def test_13_what_is_not_in_form(self):
+        store = with_style()
+        for text in map(sent, NOT_IN_FORM):
+            self.assert_intake_refused(13, store.buffer, 16, b"", text)
+            self.assert_raises_refusal(Refusal.FORM, store.insert_xml, label(16), path((11, 0)), text)
+        self.assert_refused(13, raw.insert_xml, store.buffer, 16, b"", b"<e4\xff")
+
+    def test_14_what_is_not_own(self):
+        store = with_style()
+        for text in map(sent, NOT_OWN):
+            self.assert_intake_refused(14, store.buffer, 16, P10, text)
+            self.assert_raises_refusal(Refusal.NOT_OWN, store.insert_xml, label(16), path((11, 0)), text)
+
+    def test_all_or_none(self):
+        store = with_style()
+        self.assertEqual(store.insert_xml(label(16), path((10, 0)), sent_group(20, 16, *range(1, 31))), 31)
+        for number in 33, 600, 1500:
+            self.assert_intake_refused(8, store.buffer, 16, P10, sent_group(20, 16, *range(1, number)))
+            self.assert_intake_refused(9, store.buffer, 16, P10, sent_group(21, 16, *range(1, number)))
+            self.assert_intake_refused(13, store.buffer, 16, P10, sent_group(20, 16, *range(1, number), 1))
+        self.assert_intake_refused(9, store.buffer, 16, P10, sent_group(21, 16, 1))
+        self.assertEqual(store.insert_xml(label(16), path((10, 0)), sent_group(21, 16)), 1)
+        self.assertEqual(store.view_xml(label(0)), f'<dossier subject="0">{sent_group(10, 0)}</dossier>')
+
+    def test_view_is_taken_in_again(self):
+        store, other = mixed(), Store()
+        for name in range(1, 96, 16):
+            viewed = store.view_xml(label(0), path((name, 0)))
+            text = viewed.removeprefix('<dossier subject="0">').removesuffix("</dossier>")
+            self.assertEqual(other.insert_xml(label(0), (), text), 1)
+            self.assertEqual(other.view_xml(label(0), path((name, 0))), viewed)
+
+    def test_example(self):
+        examples = pathlib.Path(__file__).resolve().parents[2] / "examples"
+        command = [sys.executable, "-B", examples / "style.py", examples / "style.xml"]
+        done = subprocess.run(command, capture_output=True, check=True)
+        self.assertEqual(done.stdout, (examples / "style.out").read_bytes())
+
+
 class Refusals(CallTest):
     """Refusals 1 to 10, on the numbers as they are."""
 
@@ -408,6 +570,7 @@ class Refusals(CallTest):
             self.assert_raises_refusal(Refusal.STORE_LENGTH, Store(store).insert, label(0), path((10, 0)), Group())
             self.assert_raises_refusal(Refusal.STORE_LENGTH, Store(store).update, label(0), path((10, 0)), Group())
             self.assert_raises_refusal(Refusal.STORE_LENGTH, Store(store).delete, label(0), path((10, 0)))
+            self.assert_raises_refusal(Refusal.STORE_LENGTH, Store(store).insert_xml, label(0), (), "")
 
     def test_2_subject_on_all_its_bits(self):
         store = example().buffer
@@ -425,6 +588,8 @@ class Refusals(CallTest):
         self.assert_raises_refusal(Refusal.NOT_WELL_FORMED, store.view_xml, label(16))
         self.assert_raises_refusal(Refusal.NOT_WELL_FORMED, store.grade, label(16), (), (), 1)
         self.assert_raises_refusal(Refusal.NO_MEASURE, store.grade, label(15), (), (), 1)
+        self.assert_raises_refusal(Refusal.NOT_WELL_FORMED, store.insert_xml, label(16), (), "")
+        self.assert_raises_refusal(Refusal.FORM, store.insert_xml, label(15), (), "")
 
     def test_4_what_is_no_path(self):
         store = Store()
@@ -488,6 +653,7 @@ class Wrapper(CallTest):
                 (raw.delete, (number, P10)),
                 (raw.grade, (number, P10, P10, 1)),
                 (raw.grade, (0, P10, P10, number)),
+                (raw.insert_xml, (number, P10, SENT)),
             ):
                 self.assertRaises(ValueError, call, store, *arguments)
         self.assertEqual(store, Store().buffer)
@@ -497,6 +663,7 @@ class Wrapper(CallTest):
             self.assertRaises(ValueError, Label.from_number, number)
         for number in 65536, -1:
             self.assertRaises(ValueError, Store().insert, label(0), path((number, 0)), Group())
+            self.assertRaises(ValueError, Store().insert_xml, label(0), path((number, 0)), "")
         for number in 2**31, -(2**31) - 1:
             self.assertRaises(ValueError, Measure, number)
 
@@ -509,16 +676,20 @@ class Wrapper(CallTest):
         self.assertRaises(ValueError, raw.insert, store, 0, inside[4:7], *GROUP)
         self.assertRaises(ValueError, raw.update, store, 0, P10, 1, inside[-4:])
         self.assertRaises(ValueError, raw.delete, store, 0, inside[4:7])
+        self.assertRaises(ValueError, raw.insert_xml, store, 0, inside[4:7], SENT)
+        self.assertRaises(ValueError, raw.insert_xml, store, 0, b"", inside[:64])
         self.assertEqual(bytes(store), before)
 
     def test_buffers_that_are_neighbours(self):
         buffer = bytearray(P10) + Store().buffer + P10
         inside = memoryview(buffer)
         self.assertEqual(raw.insert(inside[3:-3], 0, inside[:3], *GROUP), Answer(0, 0))
-        self.assertEqual(raw.delete(inside[3:-3], 0, inside[-3:]), Answer(0, 1))
+        self.assertEqual(raw.insert_xml(inside[3:-3], 0, inside[-3:], SENT), Answer(0, 1))
+        self.assertEqual(raw.delete(inside[3:-3], 0, inside[-3:]), Answer(0, 2))
 
     def test_store_that_cannot_be_written(self):
         self.assertRaises(TypeError, raw.insert, bytes(raw.STORE_BYTES), 0, P10, *GROUP)
+        self.assertRaises(TypeError, raw.insert_xml, bytes(raw.STORE_BYTES), 0, b"", SENT)
         self.assertRaises(TypeError, raw.view, Store().buffer, 0, b"", bytes(64))
         self.assertRaises(TypeError, raw.view_xml, Store().buffer, 0, b"", bytes(64))
 
@@ -536,7 +707,7 @@ class Wrapper(CallTest):
             self.assert_raises_refusal(refusal, Answer(int(refusal), 0).outcome)
             self.assert_raises_refusal(refusal, GradeAnswer(int(refusal), 0, 0).outcome)
         self.assertEqual(GradeAnswer(0, -4, 2).outcome(), Grade(-4, 2))
-        for answer in Answer(13, 0), Answer(7, 1), GradeAnswer(13, 0, 0), GradeAnswer(7, -1, 0), GradeAnswer(12, 0, 1):
+        for answer in Answer(15, 0), Answer(7, 1), GradeAnswer(15, 0, 0), GradeAnswer(7, -1, 0), GradeAnswer(12, 0, 1):
             with self.assertRaises(UnexpectedAnswer) as raised:
                 answer.outcome()
             self.assertEqual(raised.exception.answer, answer)
@@ -574,6 +745,7 @@ class WholeNumbers(CallTest):
             self.assertRaises(TypeError, store.delete, label(0), steps)
             self.assertRaises(TypeError, store.grade, label(0), steps, (), 1)
             self.assertRaises(TypeError, store.grade, label(0), (), steps, 1)
+            self.assertRaises(TypeError, store.insert_xml, label(0), steps, "")
         self.assertEqual(store.buffer, Store().buffer)
 
     def test_subjects_kinds_and_sizes(self):
@@ -588,6 +760,7 @@ class WholeNumbers(CallTest):
             self.assertRaises(TypeError, raw.delete, store, number, P10)
             self.assertRaises(TypeError, raw.grade, store, number, P10, P10, 1)
             self.assertRaises(TypeError, raw.grade, store, 0, P10, P10, number)
+            self.assertRaises(TypeError, raw.insert_xml, store, number, b"", SENT)
         self.assertEqual(store, Store().buffer)
 
     def test_lengths(self):
@@ -629,6 +802,7 @@ class Carried(CallTest):
     def test_what_an_error_says(self):
         self.assertEqual(str(Refused(Answer(7, 0))), "refused by 7: ABSENT")
         self.assertEqual(str(Refused(GradeAnswer(12, 0, 0))), "refused by 12: NO_MEASURE")
+        self.assertEqual(str(Refused(Answer(14, 0))), "refused by 14: NOT_OWN")
         self.assertEqual(str(UnexpectedAnswer(Answer(11, 2))), "unexpected answer: number 11, count 2")
         unexpected = UnexpectedAnswer(GradeAnswer(7, -1, 2))
         self.assertEqual(str(unexpected), "unexpected answer: number 7, step -1, remainder 2")

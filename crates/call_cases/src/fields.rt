@@ -1,14 +1,22 @@
-// The fields of a record's head: byte 0 what is to be done, 1 and 2 the lengths of the two texts, then from byte 4 on three words,
-// lowest byte first: the store's length; a subject or a place; a kind, a number of sizes or the output's length.
+// The fields of a record's head: byte 0 what is to be done, 1 the length of the first text, 2 and 3 that of the second, then from byte
+// 4 on three words: the store's length; a subject or a place; a kind, a number of sizes or the output's length. Of each number the
+// lowest byte is the first.
 ghost use mathlib.Core.Path.{_≡_};
 ghost use Prim.Native.Nat.{_+_, _*_, _≤_};
 ghost use lib.ListN.{getD};
 
-// The length of a text.
-pub fn length(x: u8) -> usize
-    ensures { λ r. ⌜ (r ≡ x) × (r ≤ 255) ⌝ }
+// The length of the first text.
+pub fn first_length(head: &[u8; 16]) -> usize
+    ensures { λ r. ⌜ (r ≡ getD (now (head .entry)) 1 0) × (r ≤ 255) ⌝ }
 {
-    octets::index(x)
+    octets::index(head[1])
+}
+
+// The length of the second text.
+pub fn second_length(head: &[u8; 16]) -> usize
+    ensures { λ r. ⌜ (r ≡ getD (now (head .entry)) 2 0 + 256 * getD (now (head .entry)) 3 0) × (r ≤ 65535) ⌝ }
+{
+    octets::index(head[2]) + 256 * octets::index(head[3])
 }
 
 // The subject of a call.

@@ -1,4 +1,4 @@
-// The six calls, executed: reads records, carries out each on one store, and writes what the calls answer.
+// The seven calls, executed: reads records, carries out each on one store, and writes what the calls answer.
 // tools/call_cases.py makes the records and the output that they must give.
 mod fields;
 mod run;
@@ -12,24 +12,24 @@ ghost use lib.ListN.{length};
 fn main() {
     let mut store = [0u8; 42372];
     let mut output = [0u8; 65536];
+    let mut second = [0u8; 65535];
     let mut turns = u64::MAX;
     while 0 < turns {
-        if !turn(&mut store, &mut output) {
+        if !turn(&mut store, &mut output, &mut second) {
             return;
         }
         turns -= 1;
     }
 }
 
-// Reads a record and carries it out: whether there was one.
-fn turn(store: &mut [u8; 42372], output: &mut [u8; 65536]) -> bool {
+// Reads a record and carries it out: whether there was one. Its second text comes into a buffer.
+fn turn(store: &mut [u8; 42372], output: &mut [u8; 65536], second: &mut [u8; 65535]) -> bool {
     let mut head = [0u8; 16];
     if io::read_full(STDIN_FILENO, &mut head) < 16 {
         return false;
     }
     let mut first = [0u8; 255];
-    let mut second = [0u8; 255];
-    texts(store, output, &head, &mut first, &mut second);
+    texts(store, output, &head, &mut first, second);
     true
 }
 
@@ -41,10 +41,10 @@ fn texts(
     first: &mut [u8],
     second: &mut [u8],
 )
-    requires { ⌜ (length (now first) ≡ 255) × (length (now second) ≡ 255) ⌝ }
+    requires { ⌜ (length (now first) ≡ 255) × (length (now second) ≡ 65535) ⌝ }
 {
-    let m = fields::length(head[1]);
-    let n = fields::length(head[2]);
+    let m = fields::first_length(head);
+    let n = fields::second_length(head);
     io::read_full(STDIN_FILENO, &mut first[0..m]);
     io::read_full(STDIN_FILENO, &mut second[0..n]);
     run::record(store, output, head, &first[0..m], &second[0..n]);

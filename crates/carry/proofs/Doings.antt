@@ -1,11 +1,11 @@
 -- Calls carried out: the value that a line brings, and what a call answered, wrote and left.
 use mathlib.Core.Path.{_≡_, refl, sym, ap, ap₂, subst, _∙_}
 use mathlib.Core.List.{List, [], _∷_, _++_, append-assoc}
-use Prim.Native.Nat.{ℕ, _+_, _-_, _≤_, _<_}
+use Prim.Native.Nat.{ℕ, _+_, _-_, _≤_}
 use native.Mathlib.Omega.{arith}
 use borrow.Rule.Slice.PartMut.{putMid}
 use lib.ListN.{length, take, drop, set, take-append-drop, length-drop}
-use lib.Seq.{lt-length-set, take-all, take-at, length-take-le, drop-append-le}
+use lib.Seq.{take-all, take-at, length-take-le, drop-append-le}
 use Rattle.model.specs.Path.{Step, isPrefix, stepsOf}
 use Rattle.model.specs.Value.{Content}
 use Rattle.model.specs.Model.{openModel, ownSet}
@@ -16,6 +16,7 @@ use Rattle.model.proofs.Sets.{length-keep}
 use Rattle.model.proofs.Keeps.{open-valid}
 use Rattle.model.proofs.Operations.{outcome-either}
 use Rattle.model.proofs.Refusals.{answer-fits}
+use Rattle.octets.specs.Joined.{wordBytes}
 use Rattle.text.specs.Overlay.{overlay}
 use Rattle.text.proofs.Overlays.{over-room, wrote-none}
 use Rattle.promise.specs.Did.{Did}
@@ -24,32 +25,15 @@ use Rattle.script.specs.declared.Value.the-variants.{Group, Measure, Text}
 use Rattle.script.specs.Values.{valueOf}
 use Rattle.script.specs.declared.Call as read
 use Rattle.script.specs.declared.Read.{Read}
-use Rattle.carry.specs.Done.{measureBytes, opOn, callOn, Performed}
+use Rattle.carry.specs.Done.{opOn, callOn, Performed}
 
 -- ---- the value
-
--- bytes of a buffer that has room for four, one after another
-pub second-fits : (b : List ℕ) (x : ℕ) → 4 ≤ length b → 1 < length (set b 0 x)
-second-fits b x h = lt-length-set b 0 x (omega arith)
-
-pub third-fits : (b : List ℕ) (x y : ℕ) → 4 ≤ length b → 2 < length (set (set b 0 x) 1 y)
-third-fits b x y h = lt-length-set (set b 0 x) 1 y (lt-length-set b 0 x (omega arith))
-
-pub fourth-fits : (b : List ℕ) (x y z : ℕ) → 4 ≤ length b → 3 < length (set (set (set b 0 x) 1 y) 2 z)
-fourth-fits b x y z h = lt-length-set (set (set b 0 x) 1 y) 2 z (lt-length-set (set b 0 x) 1 y (lt-length-set b 0 x (omega arith)))
-
-pub measure-laid : (b : List ℕ) (x y z w : ℕ) → 4 ≤ length b → take 4 (set (set (set (set b 0 x) 1 y) 2 z) 3 w) ≡ x ∷ y ∷ z ∷ w ∷ []
-measure-laid [] x y z w h = absurd (omega arith)
-measure-laid (a ∷ []) x y z w h = absurd (omega arith)
-measure-laid (a ∷ b ∷ []) x y z w h = absurd (omega arith)
-measure-laid (a ∷ b ∷ c ∷ []) x y z w h = absurd (omega arith)
-measure-laid (a ∷ b ∷ c ∷ d ∷ r) x y z w h = refl
 
 module _ {v : Value} (l : List ℕ) where
   pub group-brought : v ≡ Group → (b : List ℕ) → contentOf (valueOf v l) ≡ record { kind = 0; value = take 0 b }
   group-brought e b = ap (λ (u : Value). contentOf (valueOf u l)) e
 
-  pub measure-brought : {m : ℕ} → v ≡ Measure m → (b : List ℕ) → take 4 b ≡ measureBytes m → contentOf (valueOf v l) ≡ record { kind = 1; value = take 4 b }
+  pub measure-brought : {m : ℕ} → v ≡ Measure m → (b : List ℕ) → take 4 b ≡ wordBytes m → contentOf (valueOf v l) ≡ record { kind = 1; value = take 4 b }
   measure-brought e b f = ap (λ (u : Value). contentOf (valueOf u l)) e ∙ ap (λ (t : List ℕ). record { kind = 1; value = t }) (sym f)
 
   pub text-brought : {n : ℕ} → v ≡ Text n → {at : ℕ} → at ≡ length l - n → (b : List ℕ) {t y : List ℕ} → t ≡ drop at l → y ≡ take (length t) t ++ drop (length t) b

@@ -1,7 +1,7 @@
 -- A call carried out: what it answered, wrote and left.
 use mathlib.Core.Path.{_≡_}
 use mathlib.Core.List.{List, [], _∷_}
-use Prim.Native.Nat.{ℕ, _/_, _%_}
+use Prim.Native.Nat.{ℕ}
 use Rattle.model.specs.Call.{Call, by, Op, view, insert, update, delete, Told}
 use Rattle.model.specs.Run.{answerOf, storeAfter}
 use Rattle.model.specs.Script.{contentOf, outputSpace}
@@ -9,10 +9,6 @@ use Rattle.text.specs.Overlay.{Wrote}
 use Rattle.script.specs.Values.{valueOf}
 use Rattle.script.specs.declared.Call as read
 use Rattle.script.specs.declared.Read.{Read}
-
--- a measure's four bytes, lowest first
-abbrev pub measureBytes : ℕ → List ℕ
-measureBytes m = m % 256 ∷ m / 256 % 256 ∷ m / 65536 % 256 ∷ m / 16777216 ∷ []
 
 -- the operation of a call that was read from the line l, its path given as bytes
 abbrev pub opOn : read.Call → (path l : List ℕ) → Op

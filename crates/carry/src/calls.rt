@@ -4,14 +4,14 @@ use script::Read;
 use script::Value;
 ghost use mathlib.Core.Path.{_≡_};
 ghost use mathlib.Core.List.{[]};
-ghost use Prim.Native.Nat.{_-_, _/_, _%_, _≤_, _<_};
+ghost use Prim.Native.Nat.{_-_, _≤_, _<_};
 ghost use lib.ListN.{length, take};
 ghost use Rattle.model.specs.Call as calls;
 ghost use Rattle.model.specs.Call.{by, counted};
 ghost use Rattle.model.specs.Script.{contentOf};
 ghost use Rattle.promise.specs.Did.{Did};
 ghost use Rattle.script.specs.Values.{valueOf};
-ghost use Rattle.carry.specs.Done.{measureBytes, Performed, callOn};
+ghost use Rattle.carry.specs.Done.{Performed, callOn};
 
 // What a call answered, and how many bytes it wrote.
 pub struct Done {
@@ -24,17 +24,6 @@ pub struct Done {
 struct Content {
     kind: u32,
     size: usize,
-}
-
-// Writes a measure's four bytes, lowest first.
-fn put_measure(m: u32, bytes: &mut [u8])
-    requires { ⌜ 4 ≤ length (now bytes) ⌝ }
-    ensures { λ _. ⌜ take 4 (now (bytes .exit)) ≡ measureBytes m ⌝ }
-{
-    bytes[0] = (m % 256) as u8;
-    bytes[1] = (m / 256 % 256) as u8;
-    bytes[2] = (m / 65536 % 256) as u8;
-    bytes[3] = (m / 16777216) as u8;
 }
 
 // Where a text of n bytes at the end of a line begins.
@@ -56,7 +45,7 @@ fn bring(v: Value, line: &[u8], bytes: &mut [u8]) -> Content
     match v {
         Value::Group => Content { kind: 0, size: 0 },
         Value::Measure(m) => {
-            put_measure(m, bytes);
+            octets::put_word(m, bytes);
             Content { kind: 1, size: 4 }
         }
         Value::Text(n) => {

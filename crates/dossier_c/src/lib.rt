@@ -1,5 +1,5 @@
 // The calls as C functions. A slice is passed as a pointer and a length; the result is returned by value.
-ghost use Rattle.promise.specs.Did.{Viewed, Inserted, Updated, Deleted, ViewedXml, Graded};
+ghost use Rattle.promise.specs.Did.{Viewed, Inserted, Updated, Deleted, ViewedXml, Graded, TookIn};
 
 // What a call answers: 0 or the number of its refusal, and its count.
 #[repr(C)]
@@ -109,5 +109,22 @@ pub extern "C" fn dossier_grade(
         number: done.number,
         step: done.step,
         remainder: done.remainder,
+    }
+}
+
+// Takes in a whole style as XML, all of its elements or none, below the parent in the subject's partition: how many came.
+#[no_mangle]
+pub extern "C" fn dossier_insert_xml(
+    store: &mut [u8],
+    subject: u32,
+    parent: &[u8],
+    text: &[u8],
+) -> Answer
+    ensures { λ r. ⌜ TookIn subject (now (parent .entry)) (now (text .entry)) (now (store .entry)) (r .number) (r .count) (now (store .exit)) ⌝ }
+{
+    let done = dossier_intake::insert_xml(store, subject, parent, text);
+    Answer {
+        number: done.number,
+        count: done.count as u64,
     }
 }

@@ -7,7 +7,7 @@ use Prim.Native.Nat.{ℕ, zero, suc, _-_, _<_}
 use native.Mathlib.Omega.{arith}
 use lib.ListN.{drop}
 use lib.Dec.{T, eqb}
-use mir.Facts.{no-eqb}
+use mir.Facts.{eqb-yes, no-eqb}
 use Rattle.model.specs.Lists.{all, gather, sameBytes}
 use Rattle.model.specs.Path.{Step}
 use Rattle.model.specs.Value.{Content}
@@ -27,7 +27,7 @@ abbrev plain : ℕ → Bool
 plain x = not (eqb x 60) && (not (eqb x 62) && not (eqb x 32))
 
 -- neither < nor >
-abbrev untagged : ℕ → Bool
+abbrev pub untagged : ℕ → Bool
 untagged x = not (eqb x 60) && not (eqb x 62)
 
 read-append : (r : Reader) (x y : List ℕ) → readBytes r (x ++ y) ≡ readBytes (readBytes r x) y
@@ -75,7 +75,7 @@ digit-plain x t =
     both (not (eqb x 60)) (not (eqb x 62) && not (eqb x 32)) (no-eqb (λ (e : x ≡ 60). omega (arith, r .1)))
     (both (not (eqb x 62)) (not (eqb x 32)) (no-eqb (λ (e : x ≡ 62). omega (arith, r .1))) (no-eqb (λ (e : x ≡ 32). omega (arith, r .0))))
 
-plain-untagged : (l : List ℕ) → T (all plain l) → T (all untagged l)
+pub plain-untagged : (l : List ℕ) → T (all plain l) → T (all untagged l)
 plain-untagged [] t = tt
 plain-untagged (x ∷ l) t =
     let h : T (plain x) = and-l (plain x) (all plain l) t in
@@ -84,24 +84,31 @@ plain-untagged (x ∷ l) t =
     (and-l (not (eqb x 62)) (not (eqb x 32)) (and-r (not (eqb x 60)) (not (eqb x 62) && not (eqb x 32)) h)))
     (plain-untagged l (and-r (plain x) (all plain l) t))
 
-decimal-plain : (n : ℕ) → T (all plain (decimal n))
+pub decimal-plain : (n : ℕ) → T (all plain (decimal n))
 decimal-plain n = in-all plain (decimal n) (λ x m. digit-plain x (all-in isDigit (decimal n) (decimal-digits n) m))
 
+-- a fact of escaped characters holds if it holds of the three that are escaped and of one that stands for itself
+module _ (P : List ℕ → Type 0) (x : ℕ) (amp : x ≡ 38 → P (ascii "&amp;")) (lt : x ≡ 60 → P (ascii "&lt;")) (gt : x ≡ 62 → P (ascii "&gt;"))
+    (itself : T (not (eqb x 38)) → T (not (eqb x 60)) → T (not (eqb x 62)) → P (x ∷ [])) where
+  pub escaped-fact : P (escaped x)
+  unfolding escaped
+  escaped-fact =
+      decide (eqb x 38)
+      (λ (t : T (eqb x 38)). rw (is-true (eqb x 38) t) (amp (eqb-yes t)))
+      (λ (t : T (not (eqb x 38))).
+      rw (cond-no (eqb x 38) (ascii "&amp;") (cond (eqb x 60) (ascii "&lt;") (cond (eqb x 62) (ascii "&gt;") (x ∷ []))) t)
+      (decide (eqb x 60)
+      (λ (u : T (eqb x 60)). rw (is-true (eqb x 60) u) (lt (eqb-yes u)))
+      (λ (u : T (not (eqb x 60))).
+      rw (cond-no (eqb x 60) (ascii "&lt;") (cond (eqb x 62) (ascii "&gt;") (x ∷ [])) u)
+      (decide (eqb x 62)
+      (λ (w : T (eqb x 62)). rw (is-true (eqb x 62) w) (gt (eqb-yes w)))
+      (λ (w : T (not (eqb x 62))). rw (cond-no (eqb x 62) (ascii "&gt;") (x ∷ []) w) (itself t u w))))))
+
 escaped-untagged : (x : ℕ) → T (all untagged (escaped x))
-unfolding escaped
 escaped-untagged x =
-    decide (eqb x 38)
-    (λ (t : T (eqb x 38)). rw (is-true (eqb x 38) t) tt)
-    (λ (t : T (not (eqb x 38))).
-    rw (cond-no (eqb x 38) (ascii "&amp;") (cond (eqb x 60) (ascii "&lt;") (cond (eqb x 62) (ascii "&gt;") (x ∷ []))) t)
-    (decide (eqb x 60)
-    (λ (u : T (eqb x 60)). rw (is-true (eqb x 60) u) tt)
-    (λ (u : T (not (eqb x 60))).
-    rw (cond-no (eqb x 60) (ascii "&lt;") (cond (eqb x 62) (ascii "&gt;") (x ∷ [])) u)
-    (decide (eqb x 62)
-    (λ (w : T (eqb x 62)). rw (is-true (eqb x 62) w) tt)
-    (λ (w : T (not (eqb x 62))).
-    rw (cond-no (eqb x 62) (ascii "&gt;") (x ∷ []) w) (both (untagged x) true (both (not (eqb x 60)) (not (eqb x 62)) u w) tt))))))
+    escaped-fact (λ l. T (all untagged l)) x (λ e. tt) (λ e. tt) (λ e. tt)
+    (λ t u w. both (untagged x) true (both (not (eqb x 60)) (not (eqb x 62)) u w) tt)
 
 gather-untagged : (l : List ℕ) → T (all untagged (gather escaped l))
 gather-untagged [] = tt
@@ -116,7 +123,7 @@ value-untagged (suc zero) v =
     (λ h. plain-untagged (decimal (4294967296 - measureOf v)) (decimal-plain (4294967296 - measureOf v)))
 value-untagged (suc (suc k)) v = gather-untagged v
 
-content-untagged : (c : Option Content) → T (all untagged (contentXml c))
+pub content-untagged : (c : Option Content) → T (all untagged (contentXml c))
 content-untagged none = tt
 content-untagged (some c) = value-untagged (c .kind) (c .value)
 
@@ -157,10 +164,10 @@ module _ (os : List (List ℕ)) where
 
 module _ (a : Step) (c : Option Content) where
   -- a start tag's attributes
-  abbrev attributes : List ℕ
+  abbrev pub attributes : List ℕ
   attributes = attribute "label" (decimal (a .label)) ++ (attribute "preserve" (preserve c) ++ attribute "kind" (kindLetter c))
 
-  attributes-untagged : T (all untagged attributes)
+  pub attributes-untagged : T (all untagged attributes)
   attributes-untagged =
       all-append untagged (attribute "label" (decimal (a .label))) (attribute "preserve" (preserve c) ++ attribute "kind" (kindLetter c))
       (decimal-quoted (a .label))

@@ -55,6 +55,11 @@ pub cond-no {ℓ} : {X : Type ℓ} (b : Bool) (x y : X) → T (not b) → cond b
 cond-no true x y t = absurd t
 cond-no false x y t = refl
 
+-- branches that agree where they are chosen
+pub cond-same {ℓ} : {X : Type ℓ} (b : Bool) (x y z : X) → (T b → x ≡ y) → cond b x z ≡ cond b y z
+cond-same true x y z f = f tt
+cond-same false x y z f = refl
+
 pub is-true : (b : Bool) → T b → b ≡ true
 is-true true t = refl
 is-true false t = absurd t

@@ -21,6 +21,7 @@ use Rattle.model.specs.Text.{ascii, decimal, measureOf, signed, isDigit}
 use Rattle.model.specs.View.{visible, inView, listed, letter, shown, pathLine, headLine, listingOf, listing}
 use Rattle.model.specs.Tree.{shownBelow, forest}
 use Rattle.model.specs.Xml.{escaped, startTag, endTag, valueXml, outerTag, document, xmlOf, xmlView}
+use Rattle.model.specs.Intake.{elementsOf}
 use Rattle.model.specs.Grade.{wholeOf, measureAt}
 use Rattle.model.specs.Rows.{refusal, someRaw, goodPath, viewPath}
 use Rattle.model.specs.Call.{subjectOf, callerRows, opRows, table, Result, count as counts, graded, Answer, Outcome, writes, changes, extending, added, replaced, effect, refused, done, outcome, after}
@@ -139,7 +140,7 @@ unfolding sameWhole sameResult sameAnswer emptyModel cases markedCases furtherCa
     pathBytes contentBytes slotBytes readPath readContent readSlot unusedZero layout slots readPartition wellFormedBy hasPartition
     partition replace isHeld elements openCell cellBytes openModel ownSet live decimal measureOf signed visible inView listed
     letter shown pathLine headLine listingOf listing shownBelow forest escaped startTag endTag valueXml outerTag document xmlOf
-    xmlView wholeOf measureAt subjectOf refusal someRaw goodPath viewPath callerRows opRows table writes changes extending added replaced effect
+    xmlView elementsOf wholeOf measureAt subjectOf refusal someRaw goodPath viewPath callerRows opRows table writes changes extending added replaced effect
     refused done outcome after answerOf storeAfter corrupted emptyStore callText inRange stepText callOf unreadLine answerLines
     isDigit callGuess stepGuess readable readLine
 tested = tt

@@ -4,12 +4,18 @@ use Prim.Native.Nat.{ℕ, _+_, _*_, _/_, _≤_, _<_}
 use native.Mathlib.Omega.{arith}
 use lib.Dec.{T}
 use mir.Facts.{ltb-yes, leb-yes, yes-leb}
-use Rattle.model.specs.Label.{isLabel, level, sizing, fabric, cost, includes, dominates}
+use Rattle.model.specs.Lists.{_∈_}
+use Rattle.model.specs.Label.{labels, isLabel, level, sizing, fabric, cost, includes, dominates}
 use Rattle.model.proofs.Bools.{and-l, and-r, both}
+use Rattle.model.proofs.Walks.{in-range}
 
 pub label-lt : (n : ℕ) → T (isLabel n) → n < 32
 unfolding isLabel
 label-lt n t = ltb-yes t
+
+-- it is one of the list
+pub in-labels : (n : ℕ) → T (isLabel n) → n ∈ labels
+in-labels n t = in-range (λ k. k) 0 32 n (omega arith) (label-lt n t)
 
 -- what dominance says, part by part
 record Above (l m : ℕ) : Type 0 where

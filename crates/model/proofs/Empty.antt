@@ -12,12 +12,14 @@ use Rattle.model.specs.Label.{isLabel, dominates}
 use Rattle.model.specs.Partition.{partitionSize, layout, wellFormedBy}
 use Rattle.model.specs.Store.{storeSize, partitionStart, hasPartition, partition, emptyStore}
 use Rattle.model.specs.Model.{held, raw, elements, openCell, Model, openModel, ownSet}
+use Rattle.model.specs.View.{visible}
 use Rattle.model.specs.Call.{Call, callSubject, after}
 use Rattle.model.specs.Run.{storeAfter, call, run, remains, feed}
 use Rattle.model.proofs.Bools.{or-r, decide, cond-yes, cond-no}
 use Rattle.model.proofs.Lists.{take-replicate, drop-replicate}
-use Rattle.model.proofs.Dominance.{label-lt, top-label}
+use Rattle.model.proofs.Dominance.{label-lt, dominates-lower, top-label}
 use Rattle.model.proofs.Stores.{yes-has, partition-part}
+use Rattle.model.proofs.Restriction.{same-visible}
 use Rattle.model.proofs.Keeps.{empty-valid}
 use Rattle.model.proofs.Noninterference.{no-label-remains, open-layout, Agree, agree-seen, call-lawful}
 
@@ -80,6 +82,10 @@ agree-open o s = record { sizes = refl; cells = λ n d. refl }
 pub opens-after : (c : Call) (s : List ℕ) (n : ℕ) → T (isLabel n) → ownSet n (openModel (storeAfter c s)) ≡ ownSet n (after c (openModel s))
 unfolding ownSet openModel
 opens-after c s n t = ap elements (agree-seen call-lawful 31 c s (openModel s) (all-remain c) (agree-open 31 s) .cells n (top-label n t))
+
+-- it shows what that model shows
+pub shows-after : (c : Call) (s : List ℕ) (n : ℕ) → visible n (openModel (storeAfter c s)) ≡ visible n (after c (openModel s))
+shows-after c s n = same-visible n (openModel (storeAfter c s)) (after c (openModel s)) (λ k d. opens-after c s k (dominates-lower n k d))
 
 -- a store and a model that agree for him still do after any calls
 pub agree-calls : (cs : List Call) (s : List ℕ) (m : Model) → Agree 31 s m → Agree 31 (run (map call cs) s) (feed cs m)

@@ -2,7 +2,7 @@
 -- as a missing one.
 use mathlib.Core.Path.{_≡_, refl, sym, ap, subst, _∙_}
 use mathlib.Core.Bool.{not}
-use mathlib.Core.Option.{some}
+use mathlib.Core.Option.{Option, none, some}
 use mathlib.Core.List.{List}
 use Prim.Native.Nat.{ℕ}
 use lib.Dec.{T, eqb}
@@ -12,9 +12,10 @@ use Rattle.model.specs.Path.{Step}
 use Rattle.model.specs.Value.{Content}
 use Rattle.model.specs.Element.{Element, remove}
 use Rattle.model.specs.Model.{held, Model, ownSet, withSet}
-use Rattle.model.specs.Call.{Call, callSubject, added, outcome}
+use Rattle.model.specs.View.{visible}
+use Rattle.model.specs.Call.{Call, callSubject, added, outcome, after}
 use Rattle.model.proofs.Bools.{cond-no}
-use Rattle.model.proofs.Restriction.{restrict, same-restrict}
+use Rattle.model.proofs.Restriction.{restrict, visible-restrict, same-restrict}
 use Rattle.model.proofs.Operations.{outcome-restrict}
 
 -- restricted to a subject, a model does not show the set of a label that he does not dominate
@@ -22,6 +23,18 @@ hidden-restrict : (s : ℕ) (m : Model) (l : ℕ) → T (not (dominates s l)) �
 hidden-restrict s m l hidden es =
     same-restrict s (withSet l (some es) m) m refl
     (λ n d. cond-no (eqb n l) (held es) (m .cell n) (not-T (eqb n l) (λ t. T-not (dominates s l) (subst (λ (k : ℕ). T (dominates s k)) (eqb-yes t) d) hidden)))
+
+-- so he does not see what another's call does, whom he does not dominate
+pub unseen-call : (s : ℕ) (c : Call) (m : Model) → T (not (dominates s (callSubject c))) → visible s (after c m) ≡ visible s m
+unfolding after
+unseen-call s c m hidden = go (outcome c m .change)
+  where
+    go : (change : Option (List Element)) → visible s (withSet (callSubject c) change m) ≡ visible s m
+    go none = refl
+    go (some es) =
+        sym (visible-restrict s (withSet (callSubject c) (some es) m))
+        ∙ ap (visible s) (hidden-restrict s m (callSubject c) hidden es)
+        ∙ visible-restrict s m
 
 -- the outcome of each call is the same
 pub hidden-set : (c : Call) (m : Model) (l : ℕ) → T (not (dominates (callSubject c) l)) → (es : List Element)

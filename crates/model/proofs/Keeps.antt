@@ -1,5 +1,5 @@
 -- A subject's set stays valid under what calls do to it: count, elements, order, and the prefixes of the own label.
-use mathlib.Core.Path.{_≡_, subst}
+use mathlib.Core.Path.{_≡_, sym, subst}
 use mathlib.Core.Logic.{_⊎_, inl, inr}
 use mathlib.Core.Bool.{not, cond}
 use mathlib.Core.List.{List, [], _∷_, List·Memᴰ·not-nil}
@@ -19,9 +19,9 @@ use Rattle.model.specs.Rows.{goodPath}
 use Rattle.model.specs.Call.{added, replaced}
 use Rattle.model.specs.Lists.{_∈_}
 use Rattle.model.proofs.Bools.{and-l, and-r, both, decide, cond-yes, cond-no}
-use Rattle.model.proofs.Members.{all-in, any-in, gather-in}
-use Rattle.model.proofs.Dominance.{dominates-lower, dominates-antisym}
-use Rattle.model.proofs.Paths.{prefix-trans, prefix-parent, prefix-below}
+use Rattle.model.proofs.Members.{all-in, any-in, gather-in, in-gather}
+use Rattle.model.proofs.Dominance.{in-labels, dominates-lower, dominates-trans, dominates-antisym}
+use Rattle.model.proofs.Paths.{prefix-refl, prefix-trans, prefix-parent, prefix-below}
 use Rattle.model.proofs.Partitions.{ValidSet, well-formed, read-valid}
 use Rattle.model.proofs.Sets.{closed-facts, put-valid}
 use Rattle.model.proofs.Replacing.{replaced-valid}
@@ -57,25 +57,55 @@ visible-in s m {e} k =
     (λ (t : T (dominates s n)). (n, t, rw (cond-yes (dominates s n) (ownSet n m) [] t) at (g .2)))
     (λ (t : T (not (dominates s n))). absurd (List·Memᴰ·not-nil {a = e} (rw (cond-no (dominates s n) (ownSet n m) [] t) at (g .2))))
 
+-- and the set of each such label is visible
+pub in-visible : (s n : ℕ) (m : Model) {e : Element} → T (dominates s n) → e ∈ ownSet n m → e ∈ visible s m
+unfolding visible
+in-visible s n m {e} t k =
+    in-gather (λ n. cond (dominates s n) (ownSet n m) []) labels (in-labels n (dominates-lower s n t))
+    (subst (λ (es : List Element). e ∈ es) (sym (cond-yes (dominates s n) (ownSet n m) [] t)) k)
+
+-- a visible element through which a prefix in label n of a path in view is seen
+record Through (s : ℕ) (m : Model) (q : List Step) (n : ℕ) : Type 0 where
+  label : ℕ
+  element : Element
+  dominated : T (dominates s label)
+  member : element ∈ ownSet label m
+  extends : T (isPrefix q (element .path))
+  upward : T (dominates label n)
+
+seen-through : (s : ℕ) (m : Model) (p q : List Step) (n : ℕ) → ValidSets m → T (inView s m p) → T (isPrefix q p) → T (endsIn n q) → Through s m q n
+unfolding inView validElement validPath
+seen-through s m [] [] n sets v b t = absurd t
+seen-through s m [] (a ∷ q) n sets v b t = absurd b
+seen-through s m (a ∷ p) q n sets v b t =
+    let r : (e : Element) × (e ∈ visible s m) × T (isPrefix (a ∷ p) (e .path)) = any-in (λ e. isPrefix (a ∷ p) (e .path)) (visible s m) v in
+    let e : Element = r .0 in
+    let g : (k : ℕ) × T (dominates s k) × (e ∈ ownSet k m) = visible-in s m (r .1) in
+    let k : ℕ = g .0 in
+    let ok : T (validElement k e) = all-in (validElement k) (ownSet k m) (sets k .valid) (g .2) in
+    let bq : T (isPrefix q (e .path)) = prefix-trans q (a ∷ p) (e .path) b (r .2) in
+    record {
+      label = k;
+      element = e;
+      dominated = g .1;
+      member = g .2;
+      extends = bq;
+      upward = prefix-below k n q (e .path) (dominates-lower s k (g .1)) (search (and-l, and-r)) (search (and-l, and-r)) bq t;
+    }
+
 -- a prefix in the subject's label of a path in his view stands in his own set
 pub in-view-own : (s : ℕ) (m : Model) (p q : List Step) → ValidSets m → T (inView s m p) → T (isPrefix q p) → T (endsIn s q)
     → T (contains (ownSet s m) q)
-unfolding inView validElement validPath
-in-view-own s m [] [] sets v b t = absurd t
-in-view-own s m [] (a ∷ q) sets v b t = absurd b
-in-view-own s m (a ∷ p) q sets v b t =
-    let r : (e : Element) × (e ∈ visible s m) × T (isPrefix (a ∷ p) (e .path)) = any-in (λ e. isPrefix (a ∷ p) (e .path)) (visible s m) v in
-    let e : Element = r .0 in
-    let g : (n : ℕ) × T (dominates s n) × (e ∈ ownSet n m) = visible-in s m (r .1) in
-    let n : ℕ = g .0 in
-    let ok : T (validElement n e) = all-in (validElement n) (ownSet n m) (sets n .valid) (g .2) in
-    let bq : T (isPrefix q (e .path)) = prefix-trans q (a ∷ p) (e .path) b (r .2) in
-    let up : T (dominates n s) =
-    prefix-below n s q (e .path) (dominates-lower s n (g .1)) (search (and-l, and-r)) (search (and-l, and-r)) bq t in
-    own n (dominates-antisym n s up (g .1)) e (g .2) bq
-  where
-    own : (n : ℕ) → n ≡ s → (e : Element) → e ∈ ownSet n m → T (isPrefix q (e .path)) → T (contains (ownSet s m) q)
-    own n eq e k bq = closed-facts s (ownSet s m) (sets s .closes) e (subst (λ j. e ∈ ownSet j m) eq k) q bq t
+in-view-own s m p q sets v b t =
+    let r : Through s m q s = seen-through s m p q s sets v b t in
+    let same : r .label ≡ s = dominates-antisym (r .label) s (r .upward) (r .dominated) in
+    closed-facts s (ownSet s m) (sets s .closes) (r .element) (subst (λ j. r .element ∈ ownSet j m) same (r .member)) q (r .extends) t
+
+-- he dominates the label of a path in his view
+pub in-view-below : (s : ℕ) (m : Model) (p : List Step) (n : ℕ) → ValidSets m → T (inView s m p) → T (endsIn n p) → T (dominates s n)
+in-view-below s m p n sets v t =
+    let r : Through s m p n = seen-through s m p p n sets v (prefix-refl p) t in
+    dominates-trans s (r .label) n (r .dominated) (r .upward)
 
 -- ---- an element that comes
 

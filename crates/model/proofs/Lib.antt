@@ -1,6 +1,7 @@
 -- The laws of the definitions, a file a subject.
 pub mod Bools
 pub mod Members
+pub mod Alike
 pub mod Lists
 pub mod Dominance
 pub mod Order
@@ -14,10 +15,12 @@ pub mod Stores
 pub mod Rows
 pub mod Restriction
 pub mod Keeps
+pub mod Taking
 pub mod Operations
 pub mod Noninterference
 pub mod Refusals
 pub mod Updates
+pub mod Intakes
 pub mod Hidden
 pub mod Marks
 pub mod Dividing
@@ -25,6 +28,12 @@ pub mod Grades
 pub mod Listings
 pub mod Trees
 pub mod Balance
+pub mod Tagging
+pub mod Sending
+pub mod Searching
+pub mod Ordering
+pub mod Showing
+pub mod Readback
 pub mod Empty
 pub mod Cases
 pub mod Walks

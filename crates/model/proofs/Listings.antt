@@ -14,13 +14,18 @@ use Rattle.model.proofs.Order.{ascending-sort, sort-in, in-sort}
 use Rattle.model.proofs.Paths.{in-prefixes, prefixes-in, key-keyed, keys-injective}
 use Rattle.model.proofs.Prefixes.{prefixes-filled}
 
+-- a path of one of the elements, or a prefix of one, is reached
+pub reached : (v : List Element) (q : List Step) {e : Element} → e ∈ v → T (isPrefix q (e .path)) → T (reaches v q)
+reached v [] m t = tt
+reached v (a ∷ q) m t = in-any (λ d. isPrefix (a ∷ q) (d .path)) v m t
+
 module _ (v : List Element) (p : List Step) where
   pub listed-ascends : T (ascending pathRank (listed v p))
   unfolding listed
   listed-ascends = ascending-sort pathRank (keep (isPrefix p) (gather (λ e. prefixes (e .path)) v))
 
   -- a listed path is at or below p, and one of a visible element's prefixes
-  listed-of : (q : List Step) → q ∈ listed v p → (e : Element) × (e ∈ v) × (q ∈ prefixes (e .path)) × T (isPrefix p q)
+  pub listed-of : (q : List Step) → q ∈ listed v p → (e : Element) × (e ∈ v) × (q ∈ prefixes (e .path)) × T (isPrefix p q)
   unfolding listed
   listed-of q m =
       let k = keep-in (isPrefix p) (gather (λ e. prefixes (e .path)) v) (sort-in pathRank (keep (isPrefix p) (gather (λ e. prefixes (e .path)) v)) m) in
@@ -29,11 +34,7 @@ module _ (v : List Element) (p : List Step) where
 
   -- so it is in view
   pub listed-in : (q : List Step) → q ∈ listed v p → T (isPrefix p q) × T (reaches v q)
-  listed-in q m = let g = listed-of q m in (g .3, above q (g .0) (g .1) (in-prefixes q (g .0 .path) (g .2)))
-    where
-      above : (r : List Step) (e : Element) → e ∈ v → T (isPrefix r (e .path)) → T (reaches v r)
-      above [] e m t = tt
-      above (a ∷ r) e m t = in-any (λ d. isPrefix (a ∷ r) (d .path)) v m t
+  listed-in q m = let g = listed-of q m in (g .3, reached v q (g .1) (in-prefixes q (g .0 .path) (g .2)))
 
   -- the root is not listed
   pub listed-filled : (q : List Step) → q ∈ listed v p → 1 ≤ length q

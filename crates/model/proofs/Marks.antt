@@ -1,29 +1,29 @@
 -- What a view shows at a path in view is what stands in the set of the path's label: its content where it is live, and the mark
 -- of a removed element where it is not.
 use mathlib.Core.Path.{_≡_, refl, sym, ap, subst, _∙_}
-use mathlib.Core.Logic.{_≢_}
 use mathlib.Core.Bool.{Bool, true, false, not, cond, _&&_, _||_}
 use mathlib.Core.Option.{Option, none, some}
 use mathlib.Core.List.{List, [], _∷_, _++_}
-use Prim.Native.Nat.{ℕ, zero, suc, _+_, _≤_, _<_}
+use Prim.Native.Nat.{ℕ}
 use native.Mathlib.Omega.{arith}
 use lib.Dec.{T, eqb, eqb-refl}
 use mir.Facts.{eqb-yes, eqb-no}
-use Rattle.model.specs.Lists.{any, gather, range, _∈_}
-use Rattle.model.specs.Label.{labels, dominates}
-use Rattle.model.specs.Path.{Step, samePath, isPrefix, lastStep, bears, endsIn, validPath, key}
+use Rattle.model.specs.Lists.{any, gather, _∈_}
+use Rattle.model.specs.Label.{labels, isLabel, dominates}
+use Rattle.model.specs.Path.{Step, samePath, lastStep, bears, endsIn, key}
 use Rattle.model.specs.Value.{Content}
 use Rattle.model.specs.Element.{Element, rank, validElement, contains}
 use Rattle.model.specs.Model.{Model, ownSet, live}
 use Rattle.model.specs.View.{visible, inView, removed, contentAt}
-use Rattle.model.proofs.Bools.{and-l, and-r, or-l, or-r, decide, cond-yes, cond-no, is-true, is-false}
-use Rattle.model.proofs.Members.{all-in, any-in, in-any}
-use Rattle.model.proofs.Dominance.{label-lt, dominates-lower, dominates-trans}
+use Rattle.model.proofs.Bools.{and-l, and-r, or-l, decide, cond-yes, cond-no, is-true, is-false}
+use Rattle.model.proofs.Members.{all-in, in-any}
+use Rattle.model.proofs.Dominance.{in-labels, dominates-lower}
 use Rattle.model.proofs.Order.{ascending-sorted, sorted-one}
-use Rattle.model.proofs.Paths.{prefix-refl, prefix-below, key-keyed, keys-injective}
+use Rattle.model.proofs.Paths.{prefix-refl, key-keyed, keys-injective}
 use Rattle.model.proofs.Sets.{contains-in}
 use Rattle.model.proofs.Restriction.{live-own}
-use Rattle.model.proofs.Keeps.{ValidSets, visible-in}
+use Rattle.model.proofs.Keeps.{ValidSets, in-view-below}
+use Rattle.model.proofs.Listings.{reached}
 
 -- ---- the content at a path, in lists one after another
 
@@ -88,14 +88,8 @@ content-gather g l p f (n ∷ ns) =
 
 -- ---- labels
 
-label-listed : (l i k : ℕ) → i ≤ l → l < i + k → T (any (λ n. eqb n l) (range (λ n. n) i k))
-label-listed l i zero h j = absurd (omega arith)
-label-listed l i (suc k) h j =
-    decide (eqb i l)
-    (λ (t : T (eqb i l)). or-l (eqb i l) (any (λ n. eqb n l) (range (λ n. n) (suc i) k)) t)
-    (λ (t : T (not (eqb i l))).
-    let d : i ≢ l = eqb-no t in
-    or-r (eqb i l) (any (λ n. eqb n l) (range (λ n. n) (suc i) k)) (label-listed l (suc i) k (omega arith) (omega arith)))
+label-listed : (l : ℕ) → T (isLabel l) → T (any (λ n. eqb n l) labels)
+label-listed l t = in-any (λ n. eqb n l) labels (in-labels l t) (eqb-refl l)
 
 -- a path ends in one label
 ends-once : (p : List Step) (m n : ℕ) → T (endsIn m p) → T (endsIn n p) → m ≡ n
@@ -130,10 +124,9 @@ module _ (m : Model) (sets : ValidSets m) where
 -- where an element is visible, its path is in view
 pub seen-in-view : (s : ℕ) (m : Model) (p : List Step) → T (contains (visible s m) p) → T (inView s m p)
 unfolding inView
-seen-in-view s m [] t = tt
-seen-in-view s m (a ∷ p) t =
-    let r : (e : Element) × (e ∈ visible s m) × (a ∷ p ≡ e .path) = contains-in (visible s m) (a ∷ p) t in
-    in-any (λ e. isPrefix (a ∷ p) (e .path)) (visible s m) (r .1) (rw (← (r .2)) (prefix-refl (a ∷ p)))
+seen-in-view s m p t =
+    let r : (e : Element) × (e ∈ visible s m) × (p ≡ e .path) = contains-in (visible s m) p t in
+    reached (visible s m) p (r .1) (rw (← (r .2)) (prefix-refl p))
 
 module _ (s : ℕ) (m : Model) (sets : ValidSets m) (p : List Step) (l : ℕ) (ends : T (endsIn l p)) where
   -- no other label's set has the path
@@ -152,7 +145,7 @@ module _ (s : ℕ) (m : Model) (sets : ValidSets m) (p : List Step) (l : ℕ) (e
   unfolding visible contains
   visible-content d =
       content-gather (λ n. cond (dominates s n) (ownSet n m) []) l p other labels
-      ∙ cond-yes (any (λ n. eqb n l) labels) _ none (label-listed l 0 32 (omega arith) (label-lt l (dominates-lower s l d)))
+      ∙ cond-yes (any (λ n. eqb n l) labels) _ none (label-listed l (dominates-lower s l d))
       ∙ ap (λ (es : List Element). contentAt es p) (cond-yes (dominates s l) (ownSet l m) [] d)
     where
       other : (n : ℕ) → (n ≡ l → ⊥) → T (not (contains (cond (dominates s n) (ownSet n m) []) p))
@@ -163,17 +156,7 @@ module _ (s : ℕ) (m : Model) (sets : ValidSets m) (p : List Step) (l : ℕ) (e
 
   -- a path in view has a label that the subject dominates
   pub in-view-label : T (inView s m p) → T (dominates s l)
-  unfolding inView validElement validPath
-  in-view-label v = go p ends v
-    where
-      go : (q : List Step) → T (endsIn l q) → T (inView s m q) → T (dominates s l)
-      go [] h w = absurd h
-      go (a ∷ q) h w =
-          let r : (e : Element) × (e ∈ visible s m) × T (isPrefix (a ∷ q) (e .path)) = any-in (λ e. isPrefix (a ∷ q) (e .path)) (visible s m) w in
-          let g : (n : ℕ) × T (dominates s n) × (r .0 ∈ ownSet n m) = visible-in s m (r .1) in
-          let ok : T (validElement (g .0) (r .0)) = all-in (validElement (g .0)) (ownSet (g .0) m) (sets (g .0) .valid) (g .2) in
-          dominates-trans s (g .0) l (g .1)
-          (prefix-below (g .0) l (a ∷ q) (r .0 .path) (dominates-lower s (g .0) (g .1)) (search (and-l, and-r)) (search (and-l, and-r)) (r .2) h)
+  in-view-label v = in-view-below s m p l sets v ends
 
   -- what a view shows at a path in view
   pub shown-content : T (inView s m p) → contentAt (visible s m) p ≡ contentAt (ownSet l m) p

@@ -1,7 +1,7 @@
 -- What tests on lists say of the members.
 use mathlib.Core.Path.{_≡_, refl, sym, ap, ap₂, _∙_}
 use mathlib.Core.Logic.{_⊎_, inl, inr}
-use mathlib.Core.Bool.{Bool, not}
+use mathlib.Core.Bool.{Bool, not, _||_}
 use mathlib.Core.List.{List, [], _∷_, _++_, map, append-assoc, List·Memᴰ·head, List·Memᴰ·tail, List·Memᴰ·cases-cons, List·Memᴰ·not-nil, List·Memᴰ·append-cases}
 use lib.Dec.{T}
 use mir.Facts.{or-yes, T-not}
@@ -52,6 +52,11 @@ module _ {A : Type 0} where
 
   pub not-any : (p : A → Bool) (l : List A) → T (not (any p l)) → {x : A} → x ∈ l → T (not (p x))
   not-any p l t {x} m = decide (p x) (λ (h : T (p x)). absurd (T-not (any p l) (in-any p l m h) t)) (λ h. h)
+
+  -- tests that agree on the members
+  pub any-ext : (p q : A → Bool) (l : List A) → ((x : A) → x ∈ l → p x ≡ q x) → any p l ≡ any q l
+  any-ext p q [] h = refl
+  any-ext p q (x ∷ l) h = ap₂ (λ (a b : Bool). a || b) (h x (List·Memᴰ·head refl)) (any-ext p q l (λ y m. h y (List·Memᴰ·tail m)))
 
   pub keep-in : (p : A → Bool) (l : List A) {x : A} → x ∈ keep p l → (x ∈ l) × T (p x)
   keep-in p [] m = absurd (List·Memᴰ·not-nil m)

@@ -17,9 +17,11 @@ use Rattle.model.specs.Store.{storeSize}
 use Rattle.model.specs.Model.{Model, ownSet, live}
 use Rattle.model.specs.View.{visible, reaches, inView, listingOf, listing}
 use Rattle.model.specs.Xml.{xmlOf, xmlView}
+use Rattle.model.specs.Tree.{Forest, entries}
+use Rattle.model.specs.Intake.{ownLive, elementsOf, withAll}
 use Rattle.model.specs.Grade.{isMeasure, measureAt}
-use Rattle.model.specs.Rows.{Row, row, refusal, goodPath, someRaw, sizeRows, pathRows, viewPathRows, lookRows, bringRows, ownLiveRows, placeRows, roomRows, askedRows}
-use Rattle.model.specs.Call.{Op, view, insert, update, delete, viewXml, grade, Call, callSubject, callerRows, opRows, table}
+use Rattle.model.specs.Rows.{Row, row, refusal, goodPath, someRaw, sizeRows, pathRows, viewPathRows, lookRows, bringRows, ownLiveRows, placeRows, roomRows, askedRows, sentRows}
+use Rattle.model.specs.Call.{Op, view, insert, update, delete, viewXml, grade, insertXml, Call, callSubject, callerRows, opRows, table}
 use Rattle.model.specs.Call.{Result, count, Effect, writes, changes, extending, added, replaced, gradeOf, effect, Outcome, refused, done, outcomeBy, outcome}
 use Rattle.model.proofs.Bools.{not-not}
 use Rattle.model.proofs.Partitions.{ValidSet}
@@ -27,6 +29,7 @@ use Rattle.model.proofs.Sets.{remove-valid}
 use Rattle.model.proofs.Rows.{Passes, passes, passes-both, refusal-behind}
 use Rattle.model.proofs.Restriction.{restrict, raw-restrict, visible-restrict, live-own, same-own, same-own-live, same-place}
 use Rattle.model.proofs.Keeps.{ValidSets, element-valid, insert-valid, update-valid}
+use Rattle.model.proofs.Taking.{rows-taken, taken-valid, same-take}
 
 -- the length of the output that is lent with an operation
 abbrev pub roomOf : Op → ℕ
@@ -36,6 +39,7 @@ roomOf (update p c) = 0
 roomOf (delete p) = 0
 roomOf (viewXml p room) = room
 roomOf (grade p q n) = 0
+roomOf (insertXml p f) = 0
 
 pub record OpLaws (o : Op) : Type 0 where
   pub rows-local : (s : ℕ) (m : Model) → T (isLabel s) → refusal (opRows o s m) ≡ refusal (opRows o s (restrict s m))
@@ -213,6 +217,18 @@ delete-changes p =
       valid = λ s m sets h. remove-valid s (stepsOf p) (ownSet s m) (sets s);
     }
 
+take-changes : (p : List ℕ) (f : Forest) → Changing (insertXml p f)
+unfolding opRows effect
+take-changes p f =
+    record {
+      result = λ own. count (length (entries (stepsOf p) f));
+      set = withAll (elementsOf (stepsOf p) f);
+      effect-is = λ s m. refl;
+      rows-local = λ s m t.
+          refusal-behind (viewPathRows p ++ sentRows s (length (stepsOf p)) f) _ _ (λ h. same-take s m t (stepsOf p) f (not-not (ownLive s f) (h .1 .1 .0)));
+      valid = λ s m sets h. taken-valid sets (rows-taken s m p f h);
+    }
+
 -- every operation has the laws; nothing else goes by cases on it
 pub op-laws : (o : Op) → OpLaws o
 op-laws (view p room) = reading-laws (view-reads p room)
@@ -221,6 +237,7 @@ op-laws (update p c) = changing-laws (update-changes p c)
 op-laws (delete p) = changing-laws (delete-changes p)
 op-laws (viewXml p room) = reading-laws (xml-reads p room)
 op-laws (grade p q n) = reading-laws (grade-reads p q n)
+op-laws (insertXml p f) = changing-laws (take-changes p f)
 
 -- ---- a call
 

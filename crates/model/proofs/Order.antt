@@ -151,7 +151,7 @@ module _ {A : Type 0} (rank : A → List ℕ) where
       deeper (inr k) f = List·Memᴰ·tail (f k)
 
   -- what is put in is there, if a member of its rank is itself
-  put-self : (x : A) (l : List A) → ((y : A) → y ∈ l → rank x ≡ rank y → x ≡ y) → x ∈ put rank x l
+  pub put-self : (x : A) (l : List A) → ((y : A) → y ∈ l → rank x ≡ rank y → x ≡ y) → x ∈ put rank x l
   put-self x [] f = List·Memᴰ·head refl
   put-self x (y ∷ l) f =
       three x y l
@@ -164,12 +164,7 @@ module _ {A : Type 0} (rank : A → List ℕ) where
   Fresh x l = (y : A) → y ∈ l → rank x ≡ rank y → ⊥
 
   pub put-new : (x : A) (l : List A) → Fresh x l → x ∈ put rank x l
-  put-new x [] f = List·Memᴰ·head refl
-  put-new x (y ∷ l) f =
-      three x y l
-      (λ t. rw (put-after x y l t) (List·Memᴰ·tail (put-new x l (λ z m. f z (List·Memᴰ·tail m)))))
-      (λ s t. rw (put-here x y l s t) (List·Memᴰ·head refl))
-      (λ s t. absurd (f y (List·Memᴰ·head refl) (precedes-total (rank x) (rank y) t s)))
+  put-new x l f = put-self x l (λ y m e. absurd (f y m e))
 
   pub length-put : (x : A) (l : List A) → Fresh x l → length (put rank x l) ≡ suc (length l)
   length-put x [] f = refl

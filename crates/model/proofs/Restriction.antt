@@ -13,13 +13,19 @@ use Rattle.model.specs.Element.{Element, contains}
 use Rattle.model.specs.Model.{Cell, held, isHeld, elements, Model, ownSet, liveBy, live}
 use Rattle.model.specs.View.{visible, reaches, inView}
 use Rattle.model.specs.Rows.{row, someRaw, refusal, ownLiveRows, placeRows}
-use Rattle.model.proofs.Bools.{decide, cond-yes, cond-no, not-not}
+use Rattle.model.proofs.Bools.{cond-yes, cond-same, not-not}
 use Rattle.model.proofs.Dominance.{dominates-refl}
 use Rattle.model.proofs.Rows.{refusal-behind}
 
 -- the model with the partitions that s does not dominate emptied
 unfoldable pub restrict : ℕ → Model → Model
 restrict s m = record { size = m .size; cell = λ n. cond (dominates s n) (m .cell n) (held []) }
+
+-- what is visible are the sets of the labels that s dominates
+pub same-visible : (s : ℕ) (a b : Model) → ((n : ℕ) → T (dominates s n) → ownSet n a ≡ ownSet n b) → visible s a ≡ visible s b
+unfolding visible
+same-visible s a b h =
+    ap (λ (f : ℕ → List Element). gather f labels) (λ i n. cond-same (dominates s n) (ownSet n a) (ownSet n b) [] (h n) i)
 
 -- ---- the three things of a model that calls read
 
@@ -32,28 +38,21 @@ module _ (s : ℕ) (m : Model) where
       one true c = refl
       one false c = refl
 
+  -- the sets of the labels that s dominates
+  set-restrict : (n : ℕ) → T (dominates s n) → ownSet n (restrict s m) ≡ ownSet n m
+  unfolding ownSet restrict
+  set-restrict n d = ap elements (cond-yes (dominates s n) (m .cell n) (held []) d)
+
   pub visible-restrict : visible s (restrict s m) ≡ visible s m
-  unfolding visible restrict ownSet
-  visible-restrict = ap (λ (f : ℕ → List Element). gather f labels) (λ i n. one (dominates s n) (m .cell n) i)
-    where
-      one : (d : Bool) (c : Cell) → cond d (elements (cond d c (held []))) [] ≡ cond d (elements c) []
-      one true c = refl
-      one false c = refl
+  visible-restrict = same-visible s (restrict s m) m set-restrict
 
   pub own-restrict : T (isLabel s) → ownSet s (restrict s m) ≡ ownSet s m
-  unfolding ownSet restrict
-  own-restrict t = ap elements (cond-yes (dominates s s) (m .cell s) (held []) (dominates-refl s t))
+  own-restrict t = set-restrict s (dominates-refl s t)
 
 -- models that are alike in the partitions that s dominates are alike restricted
 pub same-restrict : (s : ℕ) (a b : Model) → a .size ≡ b .size → ((n : ℕ) → T (dominates s n) → a .cell n ≡ b .cell n) → restrict s a ≡ restrict s b
 unfolding restrict
-same-restrict s a b e h = λ i. record { size = e i; cell = λ n. one (dominates s n) (a .cell n) (b .cell n) (h n) i }
-  where
-    one : (d : Bool) (x y : Cell) → (T d → x ≡ y) → cond d x (held []) ≡ cond d y (held [])
-    one d x y f =
-        decide d
-        (λ (t : T d). cond-yes d x (held []) t ∙ f t ∙ sym (cond-yes d y (held []) t))
-        (λ (t : T (not d)). cond-no d x (held []) t ∙ sym (cond-no d y (held []) t))
+same-restrict s a b e h = λ i. record { size = e i; cell = λ n. cond-same (dominates s n) (a .cell n) (b .cell n) (held []) (h n) i }
 
 -- an element of the own label is live if the own set has it
 pub live-own : (s : ℕ) (m : Model) (p : List Step) → T (endsIn s p) → live m p ≡ contains (ownSet s m) p

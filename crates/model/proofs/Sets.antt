@@ -29,6 +29,12 @@ pub in-contains : (es : List Element) (e : Element) → e ∈ es → T (contains
 unfolding contains
 in-contains es e m = in-any (λ d. samePath (e .path) (d .path)) es m (same-refl (e .path))
 
+-- a larger set has the paths that a set has
+pub contains-more : (es ds : List Element) → ((e : Element) → e ∈ es → e ∈ ds) → (q : List Step) → T (contains es q) → T (contains ds q)
+contains-more es ds more q t =
+    let r : (e : Element) × (e ∈ es) × (q ≡ e .path) = contains-in es q t in
+    rw (r .2) (in-contains ds (r .0) (more (r .0) (r .1)))
+
 -- the set has each prefix, of a member's path, that ends in n
 abbrev pub Closed : ℕ → List Element → Type 0
 Closed n es = (e : Element) → e ∈ es → (q : List Step) → T (isPrefix q (e .path)) → T (endsIn n q) → T (contains es q)
@@ -99,16 +105,16 @@ module _ (n : ℕ) (p : List Step) (es : List Element) where
 -- ---- putting an element in
 
 module _ (e : Element) (es : List Element) (lacks : T (not (contains es (e .path)))) where
-  fresh : Fresh rank e es
+  -- no member has its rank
+  pub fresh : Fresh rank e es
   unfolding contains
   fresh d m q =
       T-not (samePath (e .path) (d .path)) (rw (keys-injective key key-keyed (e .path) (d .path) q) (same-refl (d .path)))
       (not-any (λ c. samePath (e .path) (c .path)) es lacks m)
 
+  -- a path that was there stays
   contains-put : (q : List Step) → T (contains es q) → T (contains (put rank e es) q)
-  contains-put q t =
-      let r : (d : Element) × (d ∈ es) × (q ≡ d .path) = contains-in es q t in
-      rw (r .2) (in-contains (put rank e es) (r .0) (in-put rank e es (r .1)))
+  contains-put q t = contains-more es (put rank e es) (λ d m. in-put rank e es m) q t
 
   pub put-valid : (n : ℕ) → ValidSet key n es → T (validElement n e) → length es < 32
       → ((q : List Step) → T (isPrefix q (e .path)) → T (endsIn n q) → (q ≡ e .path) ⊎ T (contains es q))

@@ -249,7 +249,7 @@ module _ (e : Element) (fit : Fits e) where
       rw (slot-depth e, slot-length e) (search both)
 
 -- a kind that has values is a byte, and so are the values
-allowed-bytes : (k : ℕ) (v : List ℕ) → T (allowed k v) → T (isByte k) × T (all isByte v)
+pub allowed-bytes : (k : ℕ) (v : List ℕ) → T (allowed k v) → T (isByte k) × T (all isByte v)
 unfolding allowed isByte isPrintable
 allowed-bytes zero v t = (tt, none v (eqb-yes t))
   where

@@ -5,7 +5,7 @@ use mathlib.Core.Logic.{_⊎_, inl, inr}
 use mathlib.Core.Bool.{Bool, false, not}
 use mathlib.Core.Option.{Option, some}
 use mathlib.Core.List.{List, [], _∷_, _++_, map, List·Memᴰ·head, List·Memᴰ·tail, List·Memᴰ·cases-cons}
-use Prim.Native.Nat.{ℕ, zero, suc, _+_, _-_, _≤_, _<_}
+use Prim.Native.Nat.{ℕ, zero, suc, _≤_, _<_}
 use native.Mathlib.Omega.{arith}
 use lib.ListN.{length, length-append, take}
 use lib.Seq.{length-take-le}
@@ -27,18 +27,24 @@ use Rattle.model.proofs.Sets.{length-keep}
 use Rattle.model.proofs.Listings.{listed-ascends, listed-in, listed-filled, in-listed}
 
 -- an entry's rank is its path's
-abbrev entryRank : Entry → List ℕ
+abbrev pub entryRank : Entry → List ℕ
 entryRank e = pathRank (e .path)
 
 -- ---- one step more than a path
 
-longer : (r : List Step) (a : Step) → length (r ++ (a ∷ [])) ≡ suc (length r)
+pub longer : (r : List Step) (a : Step) → length (r ++ (a ∷ [])) ≡ suc (length r)
 longer r a = length-append r (a ∷ []) ∙ omega arith
 
 pub last-longer : (r : List Step) (a : Step) → lastStep (r ++ (a ∷ [])) ≡ some a
 last-longer [] a = refl
 last-longer (b ∷ []) a = refl
 last-longer (b ∷ c ∷ r) a = last-longer (c ∷ r) a
+
+-- without its last step it is the path
+pub parent-longer : (r : List Step) (a : Step) → parent (r ++ (a ∷ [])) ≡ r
+parent-longer [] a = refl
+parent-longer (b ∷ []) a = refl
+parent-longer (b ∷ c ∷ r) a = ap (λ (l : List Step). b ∷ l) (parent-longer (c ∷ r) a)
 
 pub one-longer : (r q : List Step) → T (isPrefix r q) → length q ≡ suc (length r) → (a : Step) × (q ≡ r ++ (a ∷ []))
 one-longer [] [] t h = absurd (omega arith)
@@ -50,19 +56,30 @@ one-longer (b ∷ r) (c ∷ q) t h =
     let m = one-longer r q (and-r (sameStep b c) (isPrefix r q) t) (omega arith) in
     (m .0, ap₂ (λ (x : Step) (l : List Step). x ∷ l) (sym e) (m .1))
 
-longer-same : (r : List Step) (a b : Step) → r ++ (a ∷ []) ≡ r ++ (b ∷ []) → a ≡ b
+pub longer-same : (r : List Step) (a b : Step) → r ++ (a ∷ []) ≡ r ++ (b ∷ []) → a ≡ b
 longer-same [] a b e = cc
 longer-same (c ∷ r) a b e = longer-same r a b (let f : r ++ (a ∷ []) ≡ r ++ (b ∷ []) = cc in f)
+
+-- what extends it extends the path
+pub prefix-front : (r : List Step) (a : Step) (q : List Step) → T (isPrefix (r ++ (a ∷ [])) q) → T (isPrefix r q)
+prefix-front r a q t = rw (parent-longer r a) at (parent-above (r ++ (a ∷ [])) q t)
+
+-- and is longer than the path
+pub longer-below : (r : List Step) (a : Step) (q : List Step) → T (isPrefix (r ++ (a ∷ [])) q) → length r < length q
+longer-below r a q t =
+    let l : length (r ++ (a ∷ [])) ≡ suc (length r) = longer r a in
+    let k : length (r ++ (a ∷ [])) ≤ length q = prefix-length (r ++ (a ∷ [])) q t in
+    omega arith
 
 -- ---- a forest is determined by its elements
 
 -- whether there is a first member, and it passes
-abbrev leads : {A : Type 0} → (A → Bool) → List A → Bool
+abbrev pub leads : {A : Type 0} → (A → Bool) → List A → Bool
 leads p [] = false
 leads p (x ∷ l) = p x
 
 -- of two equal lists the parts up to the first member that does not pass are equal, and so are the rests
-parts-apart : {A : Type 0} (p : A → Bool) (x y u v : List A) → T (all p x) → T (all p y) → T (not (leads p u)) → T (not (leads p v))
+pub parts-apart : {A : Type 0} (p : A → Bool) (x y u v : List A) → T (all p x) → T (all p y) → T (not (leads p u)) → T (not (leads p v))
     → x ++ u ≡ y ++ v → (x ≡ y) × (u ≡ v)
 parts-apart p [] [] u v s t f g e = (refl, e)
 parts-apart p [] (b ∷ y) u v s t f g e =

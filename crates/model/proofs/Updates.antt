@@ -6,7 +6,7 @@ use mathlib.Core.Bool.{Bool, true, false, not, cond}
 use mathlib.Core.Option.{Option, none, some}
 use mathlib.Core.List.{List, [], _∷_, _++_, map-append}
 use Prim.Native.Nat.{ℕ}
-use lib.Dec.{T, eqb, eqb-refl}
+use lib.Dec.{T, eqb}
 use mir.Facts.{not-T, T-not, eqb-yes}
 use Rattle.model.specs.Lists.{any, keep, gather, _∈_}
 use Rattle.model.specs.Sets.{sort}
@@ -14,7 +14,7 @@ use Rattle.model.specs.Label.{labels, dominates}
 use Rattle.model.specs.Path.{Step, samePath, isPrefix, prefixes, lastStep, pathRank, stepsOf}
 use Rattle.model.specs.Value.{Content}
 use Rattle.model.specs.Element.{Element, contains}
-use Rattle.model.specs.Model.{held, elements, Model, ownSet, withSet, liveBy, live}
+use Rattle.model.specs.Model.{Model, ownSet, withSet, liveBy, live}
 use Rattle.model.specs.View.{visible, inView, listed}
 use Rattle.model.specs.Rows.{refusal, bringRows, ownLiveRows}
 use Rattle.model.specs.Call.{Caller, subjectOf, update, Call, opRows, table, counted, changes, replaced, effect, Outcome, refused, done, outcome, after}
@@ -23,7 +23,7 @@ use Rattle.model.proofs.Paths.{same-eq, same-refl}
 use Rattle.model.proofs.Rows.{passes-both}
 use Rattle.model.proofs.Replacing.{pathsOf, any-paths, gather-paths, contains-paths, given, replaced-paths, replaced-others, replaced-in, replaced-here}
 use Rattle.model.proofs.Operations.{rows-own-live, Admitted, admitted, outcome-either}
-use Rattle.model.proofs.Refusals.{outcome-by}
+use Rattle.model.proofs.Refusals.{set-with, outcome-by, set-done}
 
 -- ---- two models that have the same paths for each label
 
@@ -85,21 +85,12 @@ module _ (w : Caller) (b : List ℕ) (c : Content) (m : Model) where
   abbrev next : Model
   next = after (updating w b c) m
 
-  -- the set of each label where the subject's has the new content
-  set-after : (n : ℕ) → ownSet n (withSet (subjectOf w) (some corrected) m) ≡ cond (eqb n (subjectOf w)) corrected (ownSet n m)
-  unfolding ownSet elements
-  set-after n = go (eqb n (subjectOf w))
-    where
-      go : (t : Bool) → elements (cond t (held corrected) (m .cell n)) ≡ cond t corrected (ownSet n m)
-      go true = refl
-      go false = refl
-
   -- done or refused, it leaves the paths of each label
   pub update-paths : SamePaths next m
   unfolding after refused done effect changes SamePaths
   update-paths n =
       outcome-either (updating w b c) m (λ (x : Outcome). pathsOf (ownSet n (withSet (subjectOf w) (x .change) m)) ≡ pathsOf (ownSet n m))
-      (λ k. refl) (λ a. ap pathsOf (set-after n) ∙ kept)
+      (λ k. refl) (λ a. ap pathsOf (set-with (subjectOf w) corrected m n) ∙ kept)
     where
       kept : pathsOf (cond (eqb n (subjectOf w)) corrected (ownSet n m)) ≡ pathsOf (ownSet n m)
       kept =
@@ -129,11 +120,8 @@ module _ (w : Caller) (b : List ℕ) (c : Content) (m : Model) where
     update-tells = ap (λ (x : Outcome). x .answer) (outcome-by (updating w b c) m passed)
 
     own-after : ownSet (subjectOf w) next ≡ corrected
-    unfolding after done effect changes
-    own-after =
-        ap (λ (x : Outcome). ownSet (subjectOf w) (withSet (subjectOf w) (x .change) m)) (outcome-by (updating w b c) m passed)
-        ∙ set-after (subjectOf w)
-        ∙ cond-yes (eqb (subjectOf w) (subjectOf w)) corrected own (eqb-refl (subjectOf w))
+    unfolding effect changes
+    own-after = set-done (updating w b c) m passed refl
 
     -- the element is in the subject's set with the content
     pub update-here : given (stepsOf b) c ∈ ownSet (subjectOf w) next

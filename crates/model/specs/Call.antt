@@ -13,8 +13,10 @@ use Rattle.model.specs.Element.{Element, rank, remove}
 use Rattle.model.specs.Model.{Model, ownSet, withSet}
 use Rattle.model.specs.View.{visible, listing}
 use Rattle.model.specs.Xml.{xmlView}
+use Rattle.model.specs.Tree.{Forest, entries}
+use Rattle.model.specs.Intake.{elementsOf, withAll}
 use Rattle.model.specs.Grade.{measureAt, stepOf, remainderOf}
-use Rattle.model.specs.Rows.{Row, refusal, sizeRows, labelRows, formedRows, pathRows, lookRows, bringRows, ownLiveRows, placeRows, roomRows, askedRows, measuredRows}
+use Rattle.model.specs.Rows.{Row, refusal, sizeRows, labelRows, formedRows, pathRows, lookRows, bringRows, ownLiveRows, placeRows, roomRows, askedRows, measuredRows, viewPathRows, sentRows, takeRows}
 
 -- who calls
 pub data Caller : Type 0 where
@@ -23,7 +25,8 @@ pub data Caller : Type 0 where
 unfoldable pub subjectOf : Caller → ℕ
 subjectOf (subject s) = s
 
--- what is asked: a path is given as bytes, a view with the output's length, an even grade with the number of sizes
+-- what is asked: a path is given as bytes, a view with the output's length, an even grade with the number of sizes, and XML as what the
+-- text sends: one tree, or none
 pub data Op : Type 0 where
   view : (path : List ℕ) (room : ℕ) → Op
   insert : (path : List ℕ) (content : Content) → Op
@@ -31,6 +34,7 @@ pub data Op : Type 0 where
   delete : (path : List ℕ) → Op
   viewXml : (path : List ℕ) (room : ℕ) → Op
   grade : (base top : List ℕ) (sizes : ℕ) → Op
+  insertXml : (parent : List ℕ) (sent : Forest) → Op
 
 pub record Call : Type 0 where
   pub who : Caller
@@ -57,6 +61,7 @@ opRows (update p c) s m = bringRows p c ++ ownLiveRows s m (stepsOf p)
 opRows (delete p) s m = pathRows p ++ ownLiveRows s m (stepsOf p)
 opRows (viewXml p room) s m = lookRows s m p ++ roomRows room (xmlView s m (stepsOf p))
 opRows (grade p q n) s m = askedRows p q n ++ measuredRows s m (stepsOf p) (stepsOf q)
+opRows (insertXml p f) s m = viewPathRows p ++ sentRows s (length (stepsOf p)) f ++ takeRows s m (stepsOf p) f
 
 unfoldable pub table : Call → Model → List Row
 table c m =
@@ -131,6 +136,7 @@ effect (update p c) s m = changes (count 1) (replaced (stepsOf p) c (ownSet s m)
 effect (delete p) s m = changes (count (extending (stepsOf p) (ownSet s m))) (remove (stepsOf p) (ownSet s m))
 effect (viewXml p room) s m = writes (count (length (xmlView s m (stepsOf p)))) (xmlView s m (stepsOf p))
 effect (grade p q n) s m = writes (gradeOf n (measureAt (visible s m) (stepsOf p)) (measureAt (visible s m) (stepsOf q))) []
+effect (insertXml p f) s m = changes (count (length (entries (stepsOf p) f))) (withAll (elementsOf (stepsOf p) f) (ownSet s m))
 
 -- what an operation yields that is refused: nothing
 abbrev pub nothing : Op → Result
@@ -140,6 +146,7 @@ nothing (update p c) = count 0
 nothing (delete p) = count 0
 nothing (viewXml p room) = count 0
 nothing (grade p q n) = graded (pos 0) 0
+nothing (insertXml p f) = count 0
 
 unfoldable pub refused : ℕ → Op → Outcome
 refused k o = record { answer = record { told = record { number = k; result = nothing o }; written = [] }; change = none }

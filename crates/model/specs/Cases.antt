@@ -2,6 +2,7 @@
 -- holds is a theorem.
 use mathlib.Core.Path.{_≡_}
 use mathlib.Core.Bool.{Bool, true, false}
+use mathlib.Core.Option.{none, some}
 use mathlib.Core.List.{List, [], _∷_, _++_, map}
 use Prim.Native.Nat.{ℕ}
 use Prim.Native.String.{String}
@@ -14,7 +15,8 @@ use Rattle.model.specs.Value.{Content}
 use Rattle.model.specs.Partition.{partitionSize}
 use Rattle.model.specs.Store.{partition, emptyStore}
 use Rattle.model.specs.Text.{ascii}
-use Rattle.model.specs.Call.{view, insert, update, delete, viewXml, grade, Call, by, count, gradeTold, Answer}
+use Rattle.model.specs.Tree.{Forest, empty, element}
+use Rattle.model.specs.Call.{view, insert, update, delete, viewXml, grade, insertXml, Call, by, count, gradeTold, Answer}
 use Rattle.model.specs.Run.{answerOf, storeAfter, call, corrupted, run}
 use Rattle.model.specs.Script.{lentPath, Prints}
 
@@ -160,6 +162,20 @@ sizeCalls =
     ∷ by 16 (insert (path (step 8 0 ∷ step 9 16 ∷ [])) (measure 6 0 0 0))
     ∷ by 0 (delete (short 8 0))
     ∷ []
+
+-- an element in XML with those inside it, behind it nothing; and one without elements inside, before others
+abbrev alone : Step → Content → Forest → Forest
+alone a c inside = element a (some c) inside empty
+
+abbrev leaf : Step → Content → Forest → Forest
+leaf a c behind = element a (some c) empty behind
+
+-- a style of label 16 whose siblings are not in path order, sent to be put under 10:0
+abbrev takeStyle : Call
+takeStyle =
+    by 16
+    (insertXml p10
+    (alone (step 20 16) group (leaf (step 3 16) (measure 106 255 255 255) (leaf (step 2 16) (text "a < b") empty))))
 
 -- an element n:0, and 32 of them
 abbrev numbered : ℕ → Call
@@ -327,6 +343,34 @@ furtherCases =
     ∷ calls sizeCalls (by 0 (grade (short 1 0) (short 2 0) 65)) (ungraded 11) []
     ∷ calls sizeCalls (by 0 (grade (short 1 0) (short 99 0) 0)) (ungraded 11) []
     ∷ calls sizeCalls (by 0 (grade (short 1 0) (short 1 40) 0)) (ungraded 4) []
+    -- an XML intake: its bytes, siblings in path order; the XML that its subject and a lower one then see; the same again
+    ∷ calls (insert10 ∷ []) takeStyle (counted 3)
+    (holds 16
+    ((3 ∷ 0 ∷ 0 ∷ 0 ∷ [])
+    ++ slot 2 (10 ∷ 0 ∷ 20 ∷ zeros 9) (0 ∷ 16 ∷ zeros 4) 0 0 (zeros 19)
+    ++ slot 3 (10 ∷ 0 ∷ 20 ∷ 0 ∷ 2 ∷ zeros 7) (0 ∷ 16 ∷ 16 ∷ zeros 3) 2 5 (97 ∷ 32 ∷ 60 ∷ 32 ∷ 98 ∷ zeros 14)
+    ++ slot 3 (10 ∷ 0 ∷ 20 ∷ 0 ∷ 3 ∷ zeros 7) (0 ∷ 16 ∷ 16 ∷ zeros 3) 1 4 (106 ∷ 255 ∷ 255 ∷ 255 ∷ zeros 15))
+    ∷ holds 0 ((1 ∷ 0 ∷ 0 ∷ 0 ∷ []) ++ slot 1 (10 ∷ zeros 11) (zeros 6) 0 0 (zeros 19)) ∷ [])
+    ∷ calls (insert10 ∷ takeStyle ∷ []) (by 16 (viewXml p20 16384))
+    (printed 190
+    "<dossier subject=\"16\"><e20 label=\"16\" preserve=\"PRESENT\" kind=\"G\"><e2 label=\"16\" preserve=\"PRESENT\" kind=\"T\">a &lt; b</e2><e3 label=\"16\" preserve=\"PRESENT\" kind=\"M\">-150</e3></e20></dossier>")
+    []
+    ∷ calls (insert10 ∷ takeStyle ∷ []) (by 0 (viewXml [] 16384))
+    (printed 80 "<dossier subject=\"0\"><e10 label=\"0\" preserve=\"PRESENT\" kind=\"G\"></e10></dossier>") []
+    ∷ calls (insert10 ∷ takeStyle ∷ []) takeStyle (refusedBy 8) []
+    -- a text that sends no tree, equal siblings, also of a wrong label, a seventh step; siblings equal in name only, a removed element
+    ∷ calls [] (by 16 (insertXml [] empty)) (refusedBy 13) []
+    ∷ calls [] (by 16 (insertXml [] (alone (step 1 16) group (leaf (step 2 16) group (leaf (step 2 16) group empty))))) (refusedBy 13) []
+    ∷ calls [] (by 16 (insertXml [] (alone (step 1 0) group (leaf (step 2 0) group (leaf (step 2 0) group empty))))) (refusedBy 13) []
+    ∷ calls deep (by 31 (insertXml (path five) (alone (step 6 31) group (leaf (step 7 31) group empty)))) (refusedBy 13) []
+    ∷ calls [] (by 16 (insertXml [] (alone (step 1 16) group (leaf (step 2 16) group (leaf (step 2 17) group empty))))) (refusedBy 14) []
+    ∷ calls [] (by 16 (insertXml [] (alone (step 1 16) group (element (step 2 16) none empty empty)))) (refusedBy 14) []
+    -- 14 before 7; a parent that is not in view
+    ∷ calls [] (by 16 (insertXml p10 (leaf (step 20 0) group empty))) (refusedBy 14) []
+    ∷ calls [] takeStyle (refusedBy 7) []
+    -- two elements where there is one slot, and one element
+    ∷ calls (range numbered 1 31) (by 0 (insertXml [] (alone (step 40 0) group (leaf (step 1 0) group empty)))) (refusedBy 9) []
+    ∷ calls (range numbered 1 31) (by 0 (insertXml (short 31 0) (leaf (step 1 0) group empty))) (counted 1) []
     -- document 01's script
     ∷ script
     "0\tI\t10:0\tG\t-\n16\tI\t10:0/20:16\tM\t-150\n0\tD\t10:0\n0\tV\t/\n16\tV\t/\n"

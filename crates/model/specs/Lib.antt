@@ -14,6 +14,7 @@ pub mod View
 pub mod Tree
 pub mod Xml
 pub mod Tags
+pub mod Intake
 pub mod Grade
 pub mod Rows
 pub mod Call

@@ -2,7 +2,7 @@
 use mathlib.Core.Bool.{Bool, not, cond, _&&_, _||_}
 use mathlib.Core.Option.{Option, none, some}
 use mathlib.Core.List.{List, [], _∷_, _++_}
-use Prim.Native.Nat.{ℕ, _%_}
+use Prim.Native.Nat.{ℕ, _+_, _%_}
 use lib.ListN.{length}
 use lib.Dec.{eqb, leb, ltb}
 use Rattle.model.specs.Lists.{any}
@@ -12,6 +12,8 @@ use Rattle.model.specs.Value.{Content, bringable}
 use Rattle.model.specs.Store.{storeSize}
 use Rattle.model.specs.Model.{Model, isHeld, ownSet, live}
 use Rattle.model.specs.View.{visible, inView}
+use Rattle.model.specs.Tree.{Forest, entries}
+use Rattle.model.specs.Intake.{siblings, inForm, ownLive, isOne}
 use Rattle.model.specs.Grade.{isMeasure, measureAt}
 
 -- a row has a number and whether its cause applies
@@ -106,6 +108,16 @@ askedRows p q n = viewPathRows p ++ viewPathRows q ++ sizesRows n
 -- rows 7 and 12 of an even grade: each of the two paths is in view, then each is a live measure's
 abbrev pub measuredRows : ℕ → Model → (base top : List Step) → List Row
 measuredRows s m p q = seenRows s m p ++ seenRows s m q ++ measureRows s m p ++ measureRows s m q
+
+-- rows 13 and 14 of a tree sent below a path of d steps: it is one, in form; each element is live and bears the subject's label
+abbrev pub sentRows : ℕ → ℕ → Forest → List Row
+sentRows s d f = row 13 (not (isOne f && inForm d f)) ∷ row 14 (not (ownLive s f)) ∷ []
+
+-- rows 7 to 9 of it, below the path p: the path is in view, the tree's own element is not there, and slots are free for all elements
+abbrev pub takeRows : ℕ → Model → List Step → Forest → List Row
+takeRows s m p f =
+    seenRows s m p
+    ++ (row 8 (any (λ a. live m (p ++ (a ∷ []))) (siblings f)) ∷ row 9 (ltb 32 (length (ownSet s m) + length (entries p f))) ∷ [])
 
 -- row 10: what is written fits into the output
 abbrev pub roomRows : ℕ → List ℕ → List Row

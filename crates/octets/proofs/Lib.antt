@@ -1,4 +1,5 @@
 -- The laws of the loops.
 pub mod Tests
 pub mod Joining
+pub mod Words
 pub mod Shifts

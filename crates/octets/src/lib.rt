@@ -7,7 +7,7 @@ ghost use mathlib.Core.List.{[], _∷_, _++_};
 ghost use Prim.Native.Nat.{_-_, _≤_, _<_};
 ghost use lib.ListN.{length, take, drop, replicate};
 ghost use Rattle.model.specs.Lists.{allZero};
-ghost use Rattle.octets.specs.Joined.{numberOf};
+ghost use Rattle.octets.specs.Joined.{numberOf, wordBytes};
 
 // A byte as a word.
 pub fn wide(x: u8) -> u32
@@ -21,6 +21,17 @@ pub fn word(a: u8, b: u8, c: u8, d: u8) -> u32
     ensures { λ r. ⌜ r ≡ numberOf (a ∷ b ∷ c ∷ d ∷ []) ⌝ }
 {
     wide(a) + 256 * wide(b) + 65536 * wide(c) + 16777216 * wide(d)
+}
+
+// Writes the four bytes of a word, the lowest first.
+pub fn put_word(m: u32, bytes: &mut [u8])
+    requires { ⌜ 4 ≤ length (now bytes) ⌝ }
+    ensures { λ _. ⌜ take 4 (now (bytes .exit)) ≡ wordBytes m ⌝ }
+{
+    bytes[0] = (m % 256) as u8;
+    bytes[1] = (m / 256 % 256) as u8;
+    bytes[2] = (m / 65536 % 256) as u8;
+    bytes[3] = (m / 16777216) as u8;
 }
 
 // A byte as an index.

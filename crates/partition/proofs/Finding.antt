@@ -8,8 +8,10 @@ use borrow.Author.Tests.{not-true, not-false, eq-eqb, ne-eqb, le-leb, lt-leb, lt
 use lib.ListN.{length, take, drop, length-drop}
 use lib.Seq.{drop-at}
 use native.Mathlib.Decide.{decLe}
+use native.Mathlib.Numerals.{add-one}
 use lib.Dec.{T, eqb, leb, ltb}
-use Rattle.model.specs.Lists.{any, keep, range}
+use mir.Facts.{T-not, leb-yes, leb-no}
+use Rattle.model.specs.Lists.{any, keep, range, _∈_}
 use Rattle.model.specs.Path.{Step, samePath, isPrefix, stepsOf, key}
 use Rattle.model.specs.Element.{Element, rank, validElement, contains, remove}
 use Rattle.model.specs.Slot.{slotSize, depth, readPath, readSlot}
@@ -21,14 +23,14 @@ use Rattle.model.proofs.Lists.{length-range, take-range, range-split}
 use Rattle.model.proofs.Order.{ascending-sorted}
 use Rattle.model.proofs.Slots.{valid-fits}
 use Rattle.model.proofs.Partitions.{WellFormed, well-formed}
-use Rattle.model.proofs.Walks.{rest, rest-more, rest-end, all-range}
+use Rattle.model.proofs.Walks.{rest, rest-more, rest-end, all-range, in-range}
 use Rattle.path.specs.Common.{common, isBefore, Compared}
 use Rattle.path.proofs.Steps.{length-steps, root-steps}
 use Rattle.path.proofs.Common.{common-first, common-prefix, common-same-path, common-turned}
 use Rattle.slot.specs.Slot.{Readable}
 use Rattle.slot.proofs.Reading.{length-path}
 use Rattle.partition.specs.Place.{Formed, placeOf, Found}
-use Rattle.partition.proofs.Placing.{place-within, leading, leading-within, count-place, remove-place, keep-place, contains-after, contains-here}
+use Rattle.partition.proofs.Placing.{place-within, place-after, leading, leading-within, count-place, remove-place, keep-place, contains-after, contains-here}
 
 -- ---- a well-formed partition
 
@@ -130,22 +132,34 @@ module _ {b : List ℕ} {p : List Step} {c i : ℕ} (inv : Finding b p c i) wher
     ordered : T (sorted rank (elementAt b i ∷ rest (elementAt b) c (i + 1)))
     ordered = subst (λ es. T (sorted rank es)) here (inv .order)
 
+    -- where slot i comes before the path, so it is at the next slot
+    find-step : isBefore (elementAt b i .path) p ≡ true → Finding b p c (i + 1)
+    find-step y =
+        record {
+          within = omega arith;
+          order = and-r (ahead rank (elementAt b i) (rest (elementAt b) c (i + 1))) (sorted rank (rest (elementAt b) c (i + 1))) ordered;
+          place = inv .place ∙ ap (λ es. i + placeOf p es) here ∙ rw y (omega arith);
+          has = inv .has ∙ ap (λ es. contains es p) here ∙ contains-after p (elementAt b i) (rest (elementAt b) c (i + 1)) (rw y tt);
+        }
+
+    -- where the path's place is behind slot i, it does
+    place-past : i < placeOf p (readPartition b) → isBefore (elementAt b i .path) p ≡ true
+    place-past k =
+        decide (isBefore (elementAt b i .path) p)
+        (λ (t : T (isBefore (elementAt b i .path) p)). is-true (isBefore (elementAt b i .path) p) t)
+        (λ (t : T (not (isBefore (elementAt b i .path) p))).
+        let n : isBefore (elementAt b i .path) p ≡ false = is-false (isBefore (elementAt b i .path) p) t in
+        let z : placeOf p (readPartition b) ≡ i = inv .place ∙ ap (λ es. i + placeOf p es) here ∙ rw n (omega arith) in
+        absurd (omega arith))
+
     -- slot i, read as x, compared with the lent path q
     module _ {x : List ℕ} (d : (x ≡ slotAt b i) × (length x ≡ slotSize)) {s : ℕ} {t : Bool} (m : Compared (readPath x) p s t) where
       is-before : t ≡ isBefore (elementAt b i .path) p
       unfolding readSlot
       is-before = m .before-is ∙ ap (λ (l : List ℕ). isBefore (readPath l) p) (d .0)
 
-      -- where slot i comes before the path, so it is at the next slot
       pub find-next : not t ≡ false → Finding b p c (i + 1)
-      find-next u =
-          let y : isBefore (elementAt b i .path) p ≡ true = sym is-before ∙ not-false t u in
-          record {
-            within = omega arith;
-            order = and-r (ahead rank (elementAt b i) (rest (elementAt b) c (i + 1))) (sorted rank (rest (elementAt b) c (i + 1))) ordered;
-            place = inv .place ∙ ap (λ es. i + placeOf p es) here ∙ rw y (omega arith);
-            has = inv .has ∙ ap (λ es. contains es p) here ∙ contains-after p (elementAt b i) (rest (elementAt b) c (i + 1)) (rw y tt);
-          }
+      find-next u = find-step (sym is-before ∙ not-false t u)
 
       -- where it does not, this is the place
       pub find-here : not t ≡ true → {r : Bool} → r ≡ samePath p (readPath x) → Found b p i r
@@ -160,8 +174,6 @@ module _ {b : List ℕ} {p : List Step} {c i : ℕ} (inv : Finding b p c i) wher
                 ∙ sym (inv .has ∙ ap (λ es. contains es p) here ∙ contains-here p (elementAt b i) (rest (elementAt b) c (i + 1)) ordered (rw y tt));
           }
 
--- ---- the elements at a path's place that have it or extend it
-
 -- the elements from slot k on
 elements-from : (b : List ℕ) (k : ℕ) → k ≤ count b → drop k (readPartition b) ≡ rest (elementAt b) (count b) k
 elements-from b k h =
@@ -169,6 +181,38 @@ elements-from b k h =
     ap (drop k) (elements-range b ∙ range-split (elementAt b) 0 k (count b) h)
     ∙ drop-at (range (elementAt b) 0 k) (range (elementAt b) (0 + k) (count b - k)) k (length-range (elementAt b) 0 k)
     ∙ ap (λ (i : ℕ). range (elementAt b) i (count b - k)) z
+
+-- ---- a search that begins behind a slot
+
+module _ {b : List ℕ} (f : Formed b) (p : List Step) where
+  -- so it is at each slot up to the path's place
+  pub find-at : {c : ℕ} → (c ≡ count b) × (c < 256) → (i : ℕ) → i ≤ placeOf p (readPartition b) → Finding b p c i
+  find-at e zero h = find-start f p e
+  find-at {c} e (suc i) h =
+      let inv : Finding b p c i = find-at e i (omega arith) in
+      let k : i < c = omega (arith, place-count p b, e .0) in
+      subst (Finding b p c) (add-one i) (find-step inv k (place-past inv k (omega arith)))
+
+  -- a slot that comes before the path stands before its place
+  pub place-behind : (k : ℕ) → k < count b → T (isBefore (elementAt b k .path) p) → k + 1 ≤ placeOf p (readPartition b)
+  place-behind k h t =
+      decide (leb (k + 1) (placeOf p (readPartition b)))
+      (λ (u : T (leb (k + 1) (placeOf p (readPartition b)))). leb-yes u)
+      (λ (u : T (not (leb (k + 1) (placeOf p (readPartition b))))).
+      let w : placeOf p (readPartition b) < k + 1 = leb-no u in
+      let m : elementAt b k ∈ drop (placeOf p (readPartition b)) (readPartition b) =
+      rw (elements-from b (placeOf p (readPartition b)) (place-count p b))
+      (in-range (elementAt b) (placeOf p (readPartition b)) (count b - placeOf p (readPartition b)) k (omega arith) (omega (arith, place-count p b))) in
+      absurd (T-not (isBefore (elementAt b k .path) p) t (place-after p (readPartition b) (formed-sorted f) (elementAt b k) m)))
+
+  -- slot k, read as x, compared with the path: a search may begin behind it, if it comes before the path
+  pub behind-start : {k : ℕ} → k < count b → {x : List ℕ} → (x ≡ slotAt b k) × (length x ≡ slotSize) → {s : ℕ} {t : Bool} → Compared (readPath x) p s t
+      → not t ≡ false → k + 1 ≤ placeOf p (readPartition b)
+  unfolding readSlot
+  behind-start {k} h d {s} {t} m u =
+      place-behind k h (subst (λ (y : Bool). T y) (sym (not-false t u) ∙ m .before-is ∙ ap (λ (l : List ℕ). isBefore (readPath l) p) (d .0)) tt)
+
+-- ---- the elements at a path's place that have it or extend it
 
 -- the slots from at to i have the path or extend it
 pub record Running (b : List ℕ) (p : List Step) (at c i : ℕ) : Type 0 where

@@ -145,6 +145,10 @@ module _ (p : List Step) where
       let n : isBefore (e .path) p ≡ false = is-false (isBefore (e .path) p) b in
       record { kept = rw n; left = rw n; order = rw n s; after = rw n (none-before p e es s b) })
 
+  -- what stands from the path's place on does not come before it
+  pub place-after : (es : List Element) → T (sorted rank es) → (d : Element) → d ∈ drop (placeOf p es) es → T (not (isBefore (d .path) p))
+  place-after es s = behind es s .after
+
   -- so in a whole set the extensions stand together at the path's place
   module _ (es : List Element) (s : T (sorted rank es)) where
     together : (at-path (drop (placeOf p es) es) ≡ take (leading p (drop (placeOf p es) es)) (drop (placeOf p es) es))

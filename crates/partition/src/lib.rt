@@ -135,13 +135,28 @@ fn is_same(slot: &[u8], path: &[u8], shared: usize) -> bool
     slot::depth(slot) == n
 }
 
-// The place of a lent path.
-pub fn find(part: &[u8], path: &[u8]) -> Place
+// A slot before which every element comes before a lent path: the one behind the given slot, if that comes before the path, else the first.
+fn start_behind(part: &[u8], near: usize, path: &[u8]) -> usize
+    requires { ⌜ Formed (now part) ⌝ }
+    ensures { λ r. ⌜ r ≤ placeOf (stepsOf (now (path .entry))) (readPartition (now (part .entry))) ⌝ }
+{
+    if count(part) <= near {
+        return 0;
+    }
+    let m = slot::compare_path(slot_at(part, near), path);
+    if !m.before {
+        return 0;
+    }
+    near + 1
+}
+
+// The place of a lent path. It is looked for behind the given slot first, so that paths in their order are found at once.
+pub fn find_near(part: &[u8], near: usize, path: &[u8]) -> Place
     requires { ⌜ Formed (now part) ⌝ }
     ensures { λ r. ⌜ Found (now (part .entry)) (stepsOf (now (path .entry))) (r .at) (r .found) ⌝ }
 {
     let c = count(part);
-    let mut i: usize = 0;
+    let mut i: usize = start_behind(part, near, path);
     while i < c {
         let s = slot_at(part, i);
         let m = slot::compare_path(s, path);
@@ -157,6 +172,14 @@ pub fn find(part: &[u8], path: &[u8]) -> Place
         at: i,
         found: false,
     }
+}
+
+// The place of a lent path, looked for from the first slot on: there is no slot 32.
+pub fn find(part: &[u8], path: &[u8]) -> Place
+    requires { ⌜ Formed (now part) ⌝ }
+    ensures { λ r. ⌜ Found (now (part .entry)) (stepsOf (now (path .entry))) (r .at) (r .found) ⌝ }
+{
+    find_near(part, 32, path)
 }
 
 // How many elements, from slot at on, have the path or extend it.
@@ -229,7 +252,8 @@ pub fn insert(part: &mut [u8], at: usize, path: &[u8], kind: u8, value: &[u8])
     let c = part[0];
     let start = 4 + 40 * at;
     let end = start + 40;
-    octets::shift_up(&mut part[start..1284], 40);
+    let last = 44 + 40 * octets::index(c);
+    octets::shift_up(&mut part[start..last], 40);
     slot_write::write(&mut part[start..end], path, kind, value);
     part[0] = c + 1;
 }

@@ -2,8 +2,8 @@
 use mathlib.Core.Path.{_≡_}
 use mathlib.Core.Bool.{Bool, true, _&&_}
 use mathlib.Core.List.{List, [], _∷_}
-use Prim.Native.Nat.{ℕ, _+_, _*_, _<_}
-use lib.ListN.{getD}
+use Prim.Native.Nat.{ℕ, _+_, _*_, _/_, _%_, _<_}
+use lib.ListN.{getD, set}
 use Rattle.model.specs.Label.{dominates}
 use Rattle.model.specs.Path.{Step, validStep}
 
@@ -32,3 +32,7 @@ keyWord a = a .label + 256 * a .name
 pub record KeyOf (a : Step) (w : ℕ) : Type 0 where
   pub word : w ≡ keyWord a
   pub byte : a .label < 256
+
+-- a buffer with a step written behind n others
+abbrev pub putStep : List ℕ → ℕ → ℕ → ℕ → List ℕ
+putStep b n name label = set (set (set b (3 * n) (name % 256)) (3 * n + 1) (name / 256)) (3 * n + 2) label

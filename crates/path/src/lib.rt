@@ -1,11 +1,11 @@
 // Paths that a caller lends: three bytes a step, the name lowest byte first, then the label.
 ghost use mathlib.Core.Path.{_≡_};
-ghost use Prim.Native.Nat.{_+_, _*_, _<_};
+ghost use Prim.Native.Nat.{_+_, _*_, _≤_, _<_};
 ghost use lib.ListN.{length};
 ghost use lib.Dec.{T};
 ghost use Rattle.model.specs.Path.{endsIn, stepsOf};
 ghost use Rattle.model.specs.Rows.{goodPath};
-ghost use Rattle.path.specs.Steps.{stepOf, lentStep, mayFollow, allFollow, KeyOf};
+ghost use Rattle.path.specs.Steps.{stepOf, lentStep, mayFollow, allFollow, KeyOf, putStep};
 
 // The key of a step in path order: the name first, then the label. No other code knows the order.
 pub fn step_key(lo: u8, hi: u8, label: u8) -> u32
@@ -91,4 +91,15 @@ pub fn ends_in(path: &[u8], n: u8) -> bool
     ensures { λ r. ⌜ r ≡ endsIn n (stepsOf (now (path .entry))) ⌝ }
 {
     path[path.len() - 1] == n
+}
+
+// Writes step n into a buffer: the name, lowest byte first, and the label.
+pub fn put_step(buffer: &mut [u8], n: usize, name: u64, label: u64)
+    requires { ⌜ 3 * n + 3 ≤ length (now buffer) ⌝ }
+    requires { ⌜ (name ≤ 65535) × (label ≤ 255) ⌝ }
+    ensures { λ _. ⌜ now (buffer .exit) ≡ putStep (now (buffer .entry)) n name label ⌝ }
+{
+    buffer[3 * n] = (name % 256) as u8;
+    buffer[3 * n + 1] = (name / 256) as u8;
+    buffer[3 * n + 2] = label as u8;
 }

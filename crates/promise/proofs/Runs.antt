@@ -17,7 +17,8 @@ use Rattle.promise.specs.Ran.{Action, called, corrupting, Ran, events, R
 -- ---- one call
 
 module _ (c : Call) {s o : List ℕ} {k : Told} {t o' : List ℕ} (d : Did c s o k t o') where
-  did-store : t ≡ storeAfter c s
+  -- the store that it left is the model's
+  pub did-store : t ≡ storeAfter c s
   unfolding storeAfter
   did-store = d .store-is
 

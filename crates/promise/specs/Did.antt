@@ -5,8 +5,11 @@ use Prim.Native.Nat.{ℕ}
 use lib.IntN.{ℤ}
 use lib.ListN.{length, drop}
 use Rattle.model.specs.Model.{openModel}
+use Rattle.model.specs.Path.{stepsOf}
+use Rattle.model.specs.Tree.{Forest}
+use Rattle.model.specs.Intake.{Sending}
 use Rattle.model.specs.Rows.{refusal, formedRows}
-use Rattle.model.specs.Call.{Call, callSubject, by, Op, view, insert, update, delete, viewXml, grade, opRows, Told, counted, gradeTold, Outcome, outcomeBy, outcome}
+use Rattle.model.specs.Call.{Call, callSubject, by, Op, view, insert, update, delete, viewXml, grade, insertXml, opRows, Told, counted, gradeTold, Outcome, outcomeBy, outcome}
 use Rattle.model.specs.Run.{writeSet}
 
 -- what is told, the store and the output afterwards are those of an outcome for subject s; what is written is laid over the output
@@ -38,6 +41,12 @@ ViewedXml s p b o k n o' = Did (by s (viewXml p (length o))) b o (counted k n) b
 
 abbrev pub Graded : (subject : ℕ) (base top : List ℕ) (sizes : ℕ) (store : List ℕ) (number : ℕ) (step : ℤ) (remainder : ℕ) → Type 0
 Graded s p q n b k z r = Did (by s (grade p q n)) b [] (gradeTold k z r) b []
+
+-- XML that was taken in: the tree that the text sends, or none, and what the call has done with it
+pub record TookIn (subject : ℕ) (parent text store : List ℕ) (number count : ℕ) (store' : List ℕ) : Type 0 where
+  pub sent : Forest
+  pub reads : Sending (length (stepsOf parent)) text sent
+  pub did : Did (by subject (insertXml parent sent)) store [] (counted number count) store' []
 
 -- ---- an operation for a label, on a store of the right size: what the caller's rows leave to be done
 

@@ -14,16 +14,19 @@ use Rattle.model.specs.Text.{decimal, isDigit}
 use Rattle.model.specs.Script.{ScriptValue, group, measure, text, ScriptOp, ScriptCall, view, insert, update, delete}
 use Rattle.model.specs.Script.{pathText, valueFields, callText, pathInRange, valueInRange, opInRange, inRange, Reads, Reading}
 use Rattle.model.proofs.Bools.{and-l, and-r, both}
-use Rattle.script.specs.Text.{begins, closes}
-use Rattle.script.specs.Numbers.{Numbered, NumberAt}
+use Rattle.scan.specs.Text.{begins}
+use Rattle.scan.specs.Numbers.{Numbered, NumberAt}
+use Rattle.scan.specs.declared.numbers.Number.{Number}
+use Rattle.scan.specs.declared.numbers.Number.the-variants as number
+use Rattle.scan.proofs.Goings.{no-empty, drop-here, drop-within, Here, begins-yes, begins-no}
+use Rattle.scan.proofs.Numerals.{numbered-unique}
+use Rattle.script.specs.Text.{closes}
 use Rattle.script.specs.Paths.{Pathed, PathAt}
 use Rattle.script.specs.Values.{valueOf, Valued, ValueAt}
 use Rattle.script.specs.Calls.{opOf, textIn, Headed, HeadAt, Brought, Ended, BareAs, CallAt}
 use Rattle.script.specs.declared.Call.{Call}
 use Rattle.script.specs.declared.Call.the-variants.{View, Insert, Update, Delete}
 use Rattle.script.specs.declared.Value.{Value}
-use Rattle.script.specs.declared.numbers.Number.{Number}
-use Rattle.script.specs.declared.numbers.Number.the-variants as number
 use Rattle.script.specs.declared.Head.{Head}
 use Rattle.script.specs.declared.Head.the-variants as head
 use Rattle.script.specs.declared.paths.Steps.{Steps}
@@ -32,8 +35,6 @@ use Rattle.script.specs.declared.values.ValueRead.{ValueRead}
 use Rattle.script.specs.declared.values.ValueRead.the-variants as value
 use Rattle.script.specs.declared.CallRead.{CallRead}
 use Rattle.script.specs.declared.CallRead.the-variants.{Is, None}
-use Rattle.script.proofs.Goings.{no-empty, drop-here, drop-within, Here, begins-yes, begins-no}
-use Rattle.script.proofs.Numerals.{numbered-unique}
 use Rattle.script.proofs.Trails.{pathed-unique}
 
 -- ---- subject and verb

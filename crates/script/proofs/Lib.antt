@@ -1,6 +1,5 @@
 -- The laws of reading.
-pub mod Goings
-pub mod Numerals
+pub mod Closings
 pub mod Buffers
 pub mod Trails
 pub mod Showings

@@ -10,49 +10,18 @@ use mir.Facts.{T-not, ltb-yes, yes-ltb}
 use borrow.Author.Tests.{le-leb, lt-leb, not-false}
 use Rattle.model.specs.Lists.{all}
 use Rattle.model.specs.Value.{isPrintable}
-use Rattle.model.specs.Text.{decimal, signed, isDigit}
+use Rattle.model.specs.Text.{signed}
 use Rattle.model.specs.Script.{ScriptValue, group, measure, text}
-use Rattle.model.proofs.Decimal.{decimal-injective, signed-fact}
-use Rattle.script.specs.Text.{begins}
-use Rattle.script.specs.Numbers.{Numbered, NumberAt}
-use Rattle.script.specs.Values.{WholeAt, Valued, ShownAt, ValueAt}
-use Rattle.script.specs.declared.numbers.Number.{Number}
-use Rattle.script.specs.declared.numbers.Number.the-variants as number
-use Rattle.script.specs.declared.values.Whole.{Whole}
-use Rattle.script.specs.declared.values.Whole.the-variants as whole
+use Rattle.scan.specs.Text.{begins}
+use Rattle.scan.specs.Numbers.{SignedAt}
+use Rattle.scan.specs.declared.numbers.Number.{Number}
+use Rattle.scan.specs.declared.numbers.Number.the-variants as number
+use Rattle.scan.proofs.Goings.{no-empty, drop-here, drop-within, Here, begins-yes, begins-no}
+use Rattle.scan.proofs.Signs.{signed-unique}
+use Rattle.script.specs.Values.{Valued, ShownAt, ValueAt}
 use Rattle.script.specs.declared.Value.the-variants.{Group, Measure, Text}
 use Rattle.script.specs.declared.values.ValueRead.{ValueRead}
 use Rattle.script.specs.declared.values.ValueRead.the-variants.{Is, None}
-use Rattle.script.proofs.Goings.{no-empty, drop-here, drop-within, Here, begins-yes, begins-no}
-use Rattle.script.proofs.Numerals.{numbered-unique, decimal-begins}
-
--- ---- a number that ends with the line
-
--- it is a number that nothing follows
-whole-number : {most n : ℕ} {l : List ℕ} → n ≤ most → l ≡ decimal n → Numbered most l n []
-whole-number {n = n} h e = record { small = h; ends = tt; same = e ∙ sym (append-nil (decimal n)) }
-
-module _ (most : ℕ) (l : List ℕ) (at : ℕ) {x : Number} (r : NumberAt most l at x) where
-  -- no number there
-  pub whole-none : x ≡ number.None → WholeAt most l at whole.None
-  whole-none q n h e = subst (NumberAt most l at) q r n [] (whole-number h e)
-
-  module _ {n next : ℕ} (q : x ≡ number.Is n next) where
-    front : Numbered most (drop at l) n (drop next l)
-    front = subst (NumberAt most l at) q r .2
-
-    -- the line goes on behind it
-    pub whole-more : next < length l → WholeAt most l at whole.None
-    whole-more h m k e = no-empty (sym (numbered-unique front (whole-number k e) .1) ∙ drop-here l next h)
-
-    -- the line ends with it
-    pub whole-found : length l ≤ next → WholeAt most l at (whole.Is n)
-    whole-found h =
-        (front .small, front .same ∙ ap (λ (r : List ℕ). decimal n ++ r) (drop-of-length-le l {i = next} h) ∙ append-nil (decimal n))
-
--- what it says, where there is one
-pub whole-is : (most at : ℕ) (l : List ℕ) {x : Whole} → WholeAt most l at x → {n : ℕ} → x ≡ whole.Is n → (n ≤ most) × (drop at l ≡ decimal n)
-whole-is most at l h e = subst (WholeAt most l at) e h
 
 -- ---- a value by its letter
 
@@ -100,66 +69,36 @@ module _ (l : List ℕ) (at : ℕ) {t : Bool} (e : t ≡ begins 45 (drop at l)) 
 
 -- ---- a measure
 
-valued-measure : (t : List ℕ) (m : ℕ) → m < 4294967296 → t ≡ signed m → Valued (77 ∷ 9 ∷ t) (measure m)
-valued-measure t m h e = record { ranges = yes-ltb h; same = ap (λ (r : List ℕ). 77 ∷ 9 ∷ r) e }
+-- what is no signed number is no measure
+measure-no : (t : List ℕ) → ((m : ℕ) → m < 4294967296 → t ≡ signed m ++ [] → ⊥) → (v : ScriptValue) → Valued (77 ∷ 9 ∷ t) v → ⊥
+measure-no t f = value-cases (λ e q. omega arith) (λ e m h q. f m h (q ∙ sym (append-nil (signed m)))) (λ e p. omega arith)
 
--- a text that is no measure, by its sign
-measure-cases : (t : List ℕ) → ((m : ℕ) → m < 2147483648 → t ≡ decimal m → ⊥)
-    → ((m : ℕ) → 2147483648 ≤ m → m < 4294967296 → t ≡ 45 ∷ decimal (4294967296 - m) → ⊥) → (v : ScriptValue) → Valued (77 ∷ 9 ∷ t) v → ⊥
-measure-cases t f g =
-    value-cases (λ e q. omega arith) (λ e m h. signed-fact (λ r. t ≡ r → ⊥) m (λ k. f m k) (λ k. g m k h)) (λ e p. omega arith)
+module _ (l : List ℕ) (at : ℕ) {x : Number} (s : SignedAt l at x) where
+  -- no number
+  pub measure-none : x ≡ number.None → ShownAt 77 l at None
+  measure-none e = measure-no (drop at l) (λ m h. subst (SignedAt l at) e s m [] h tt)
 
-module _ (l : List ℕ) (at : ℕ) {t : Bool} (e : t ≡ begins 45 (drop at l)) where
-  module _ (h : not t ≡ true) {x : Whole} (r : WholeAt 2147483647 l at x) where
-    -- no number, and no sign
-    pub plain-none : x ≡ whole.None → ShownAt 77 l at None
-    plain-none f =
-        measure-cases (drop at l)
-        (λ m k q. subst (WholeAt 2147483647 l at) f r m (omega arith) q)
-        (λ m k j q. begins-no l at 45 e h (decimal (4294967296 - m)) q)
+  module _ {m next : ℕ} (e : x ≡ number.Is m next) where
+    there : SignedAt l at (number.Is m next)
+    there = subst (SignedAt l at) e s
 
-    module _ {n : ℕ} (f : x ≡ whole.Is n) where
-      plain-number : (n ≤ 2147483647) × (drop at l ≡ decimal n)
-      plain-number = whole-is 2147483647 at l r f
+    -- the number fits into a word
+    pub measure-fits : m < 4294967296
+    measure-fits = there .2
 
-      -- a number without a sign
-      pub plain-found : ShownAt 77 l at (Is (Measure n))
-      plain-found =
-          let k : n ≤ 2147483647 = plain-number .0 in
-          (omega arith, valued-measure (drop at l) n (omega arith) (signed-fact (λ s. drop at l ≡ s) n (λ j. plain-number .1) (λ j. absurd (omega arith))))
+    -- the line goes on behind it
+    pub measure-more : next < length l → ShownAt 77 l at None
+    measure-more h =
+        measure-no (drop at l) λ n k q.
+        let u = signed-unique m n (drop next l) [] (there .2) k (there .3) tt (sym (there .4) ∙ q) in
+        no-empty (sym (u .1) ∙ drop-here l next h)
 
-  module _ (h : not t ≡ false) where
-    -- a measure that begins with a minus sign
-    minus-cases : ((m : ℕ) → 2147483648 ≤ m → m < 4294967296 → drop (at + 1) l ≡ decimal (4294967296 - m) → ⊥) → ShownAt 77 l at None
-    unfolding isDigit
-    minus-cases f =
-        measure-cases (drop at l)
-        (λ m k q. decimal-begins 45 tt m [] (ap (begins 45) (append-nil (decimal m) ∙ sym q) ∙ sym e ∙ not-false t h))
-        (λ m k j q. f m k j (drop-within l at 45 (decimal (4294967296 - m)) q .1))
-
-    -- no number behind the sign
-    pub minus-none : {x : Whole} → WholeAt 2147483648 l (at + 1) x → x ≡ whole.None → ShownAt 77 l at None
-    minus-none r f = minus-cases (λ m k j q. subst (WholeAt 2147483648 l (at + 1)) f r (4294967296 - m) (omega arith) q)
-
-    module _ {x : Whole} (r : WholeAt 2147483648 l (at + 1) x) {n : ℕ} (f : x ≡ whole.Is n) where
-      minus-number : (n ≤ 2147483648) × (drop (at + 1) l ≡ decimal n)
-      minus-number = whole-is 2147483648 (at + 1) l r f
-
-      -- there is no -0
-      pub minus-zero : n ≡ 0 → ShownAt 77 l at None
-      minus-zero z = minus-cases (λ m k j q. omega (arith, decimal-injective n (4294967296 - m) (sym (minus-number .1) ∙ q)))
-
-      -- a number behind the sign
-      pub minus-found : (n ≡ 0 → ⊥) → ShownAt 77 l at (Is (Measure (4294967296 - n)))
-      minus-found z =
-          let k : n ≤ 2147483648 = minus-number .0 in
-          let w : n ≡ 4294967296 - (4294967296 - n) = omega arith in
-          let q : drop at l ≡ 45 ∷ decimal (4294967296 - (4294967296 - n)) =
-          sign l at e h .is ∙ ap (λ (r : List ℕ). 45 ∷ r) (minus-number .1 ∙ ap decimal w) in (
-            omega arith,
-            valued-measure (drop at l) (4294967296 - n) (omega arith)
-                (signed-fact (λ s. drop at l ≡ s) (4294967296 - n) (λ j. absurd (omega arith)) (λ j. q)),
-          )
+    -- the line ends with it
+    pub measure-found : length l ≤ next → ShownAt 77 l at (Is (Measure m))
+    measure-found h =
+        let q : drop at l ≡ signed m =
+        there .4 ∙ ap (λ (r : List ℕ). signed m ++ r) (drop-of-length-le l {i = next} h) ∙ append-nil (signed m) in
+        (omega arith, record { ranges = yes-ltb (there .2); same = ap (λ (r : List ℕ). 77 ∷ 9 ∷ r) q })
 
 -- ---- a text
 

@@ -17,7 +17,7 @@ use Rattle.script.specs.declared.Call.the-variants.{View, Insert, Update
 use Rattle.script.specs.declared.Read.{Read}
 use Rattle.script.specs.declared.Line.{Line}
 use Rattle.script.specs.declared.Line.the-variants as line
-use Rattle.script.proofs.Buffers.{by-threes}
+use Rattle.path.proofs.Buffers.{by-threes}
 use Rattle.script.proofs.Callings.{pathOf, path-of-call}
 
 -- the codes of a value and of a call

@@ -13,18 +13,20 @@ use Rattle.model.specs.Path.{Step, stepsOf}
 use Rattle.model.specs.Text.{decimal, isDigit}
 use Rattle.model.specs.Script.{stepText, pathText, pathInRange}
 use Rattle.model.proofs.Bools.{and-l, and-r, both}
-use Rattle.script.specs.Text.{begins, closes, noDigit}
-use Rattle.script.specs.Numbers.{Numbered, NumberAt}
+use Rattle.scan.specs.Text.{begins, noDigit}
+use Rattle.scan.specs.Numbers.{Numbered, NumberAt}
+use Rattle.scan.specs.declared.numbers.Number.{Number}
+use Rattle.scan.specs.declared.numbers.Number.the-variants as number
+use Rattle.scan.proofs.Goings.{Here, begins-yes, begins-no}
+use Rattle.scan.proofs.Numerals.{numbered-unique, decimal-begins}
+use Rattle.script.specs.Text.{closes}
 use Rattle.script.specs.Paths.{Stepped, StepAt, Pathed, StepsAt, PathAt}
-use Rattle.script.specs.declared.numbers.Number.{Number}
-use Rattle.script.specs.declared.numbers.Number.the-variants as number
 use Rattle.script.specs.declared.paths.StepRead.{StepRead}
 use Rattle.script.specs.declared.paths.StepRead.the-variants as found
 use Rattle.script.specs.declared.paths.Steps.{Steps}
 use Rattle.script.specs.declared.paths.Steps.the-variants.{Are, None}
-use Rattle.script.proofs.Goings.{Here, begins-yes, begins-no}
-use Rattle.script.proofs.Numerals.{numbered-unique, decimal-begins}
-use Rattle.script.proofs.Buffers.{putStep, length-put, steps-put}
+use Rattle.path.specs.Steps.{putStep}
+use Rattle.path.proofs.Buffers.{length-put, steps-put}
 
 -- ---- a step
 

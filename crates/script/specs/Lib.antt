@@ -1,6 +1,5 @@
 -- What the contracts of this crate cite beside the model.
 pub mod Text
-pub mod Numbers
 pub mod Paths
 pub mod Values
 pub mod Calls

@@ -6,7 +6,8 @@ use lib.ListN.{length, take, drop}
 use lib.Dec.{T}
 use Rattle.model.specs.Path.{Step, stepsOf}
 use Rattle.model.specs.Script.{stepText, pathText, pathInRange}
-use Rattle.script.specs.Text.{noDigit, closes}
+use Rattle.scan.specs.Text.{noDigit}
+use Rattle.script.specs.Text.{closes}
 use Rattle.script.specs.declared.paths.StepRead.{StepRead}
 use Rattle.script.specs.declared.paths.StepRead.the-variants as found
 use Rattle.script.specs.declared.paths.Steps.{Steps}

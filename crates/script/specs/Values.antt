@@ -5,19 +5,11 @@ use Prim.Native.Nat.{ℕ, _-_, _≤_}
 use lib.ListN.{length, drop}
 use lib.Dec.{T}
 use Rattle.model.specs.Lists.{joined}
-use Rattle.model.specs.Text.{decimal}
 use Rattle.model.specs.Script.{ScriptValue, group, measure, text, valueFields, valueInRange}
 use Rattle.script.specs.declared.Value.{Value}
 use Rattle.script.specs.declared.Value.the-variants.{Group, Measure, Text}
-use Rattle.script.specs.declared.values.Whole.{Whole}
-use Rattle.script.specs.declared.values.Whole.the-variants as whole
 use Rattle.script.specs.declared.values.ValueRead.{ValueRead}
 use Rattle.script.specs.declared.values.ValueRead.the-variants.{Is, None}
-
--- what a number that ends with the line says
-abbrev pub WholeAt : ℕ → List ℕ → ℕ → Whole → Type 0
-WholeAt most l at (whole.Is n) = (n ≤ most) × (drop at l ≡ decimal n)
-WholeAt most l at whole.None = (n : ℕ) → n ≤ most → drop at l ≡ decimal n → ⊥
 
 -- the value that a line's code stands for: a text is the last bytes of the line
 abbrev pub valueOf : Value → List ℕ → ScriptValue

@@ -6,13 +6,12 @@ ghost use Rattle.model.specs.Script.{Reading};
 ghost use Rattle.script.specs.Text.{closes};
 ghost use Rattle.script.specs.Calls.{HeadAt, BareAs, CallAt, readingOf, Spans};
 
-mod numbers;
 mod paths;
 mod places;
 mod values;
 
-use numbers::Number;
 use paths::Steps;
+use scan::Number;
 use values::ValueRead;
 
 // A value: a group, a measure's 32 bits, or the length of a text, whose bytes are the last of the line.
@@ -84,13 +83,13 @@ pub fn read_line(line: &[u8], path: &mut [u8]) -> Line
 fn head_of(line: &[u8]) -> Head
     ensures { λ r. ⌜ HeadAt (now (line .entry)) r ⌝ }
 {
-    let Number::Is(subject, tab) = numbers::number_at(line, 0, 255) else {
+    let Number::Is(subject, tab) = scan::number_at(line, 0, 255) else {
         return Head::None;
     };
-    if !places::holds(line, tab, b'\t') {
+    if !scan::holds(line, tab, b'\t') {
         return Head::None;
     }
-    if !places::holds(line, tab + 2, b'\t') {
+    if !scan::holds(line, tab + 2, b'\t') {
         return Head::None;
     }
     Head::Is(subject as u32, line[tab + 1], tab + 3)

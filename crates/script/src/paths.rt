@@ -1,11 +1,9 @@
 // Paths as they stand in a line: steps parted by /, each a name and a label parted by a colon; a lone / is the empty path.
-ghost use mathlib.Core.Path.{_≡_};
-ghost use Prim.Native.Nat.{_+_, _*_, _/_, _%_, _≤_};
-ghost use lib.ListN.{length, set};
+ghost use Prim.Native.Nat.{_≤_};
+ghost use lib.ListN.{length};
 ghost use Rattle.script.specs.Paths.{StepAt, StepsAt, PathAt};
-use crate::numbers;
-use crate::numbers::Number;
 use crate::places;
+use scan::Number;
 
 // A step's name and label, and where it ends.
 enum StepRead {
@@ -24,27 +22,16 @@ fn step_at(line: &[u8], at: usize) -> StepRead
     requires { ⌜ at ≤ length (now line) ⌝ }
     ensures { λ r. ⌜ StepAt (now (line .entry)) at r ⌝ }
 {
-    let Number::Is(name, colon) = numbers::number_at(line, at, 65535) else {
+    let Number::Is(name, colon) = scan::number_at(line, at, 65535) else {
         return StepRead::None;
     };
-    if !places::holds(line, colon, b':') {
+    if !scan::holds(line, colon, b':') {
         return StepRead::None;
     }
-    let Number::Is(label, next) = numbers::number_at(line, colon + 1, 255) else {
+    let Number::Is(label, next) = scan::number_at(line, colon + 1, 255) else {
         return StepRead::None;
     };
     StepRead::Is(name, label, next)
-}
-
-// Writes step n: the name, lowest byte first, and the label.
-fn put_step(path: &mut [u8], n: usize, name: u64, label: u64)
-    requires { ⌜ 3 * n + 3 ≤ length (now path) ⌝ }
-    requires { ⌜ (name ≤ 65535) × (label ≤ 255) ⌝ }
-    ensures { λ _. ⌜ now (path .exit) ≡ set (set (set (now (path .entry)) (3 * n) (name % 256)) (3 * n + 1) (name / 256)) (3 * n + 2) label ⌝ }
-{
-    path[3 * n] = (name % 256) as u8;
-    path[3 * n + 1] = (name / 256) as u8;
-    path[3 * n + 2] = label as u8;
 }
 
 // The steps that begin at at, one or more, up to a tab or the line's end.
@@ -59,12 +46,12 @@ fn steps_at(line: &[u8], at: usize, path: &mut [u8]) -> Steps
         let StepRead::Is(name, label, next) = step_at(line, i) else {
             return Steps::None;
         };
-        put_step(path, n, name, label);
+        path::put_step(path, n, name, label);
         n += 1;
         if places::is_closed(line, next) {
             return Steps::Are(n, next);
         }
-        if !places::holds(line, next, b'/') {
+        if !scan::holds(line, next, b'/') {
             return Steps::None;
         }
         i = next + 1;
@@ -77,7 +64,7 @@ pub fn path_at(line: &[u8], at: usize, path: &mut [u8]) -> Steps
     requires { ⌜ 192 ≤ length (now path) ⌝ }
     ensures { λ r. ⌜ PathAt (now (line .entry)) at (now (path .exit)) r ⌝ }
 {
-    if !places::holds(line, at, b'/') {
+    if !scan::holds(line, at, b'/') {
         return steps_at(line, at, path);
     }
     if !places::is_closed(line, at + 1) {

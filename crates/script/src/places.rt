@@ -1,17 +1,7 @@
-// What stands at a place of a line.
+// Where a field of a line ends.
 ghost use mathlib.Core.Path.{_≡_};
 ghost use lib.ListN.{drop};
-ghost use Rattle.script.specs.Text.{begins, closes};
-
-// Whether the byte b stands at at.
-pub fn holds(line: &[u8], at: usize, b: u8) -> bool
-    ensures { λ r. ⌜ r ≡ begins b (drop at (now (line .entry))) ⌝ }
-{
-    if line.len() <= at {
-        return false;
-    }
-    line[at] == b
-}
+ghost use Rattle.script.specs.Text.{closes};
 
 // Whether a field ends at at: by a tab or with the line.
 pub fn is_closed(line: &[u8], at: usize) -> bool

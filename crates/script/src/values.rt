@@ -1,14 +1,12 @@
 // Values as they stand at the end of a line: a kind letter, a tab and what stands for the value.
 ghost use mathlib.Core.Path.{_≡_};
-ghost use Prim.Native.Nat.{_≤_, _<_};
+ghost use Prim.Native.Nat.{_≤_};
 ghost use lib.ListN.{length, drop};
 ghost use Rattle.model.specs.Lists.{all};
 ghost use Rattle.model.specs.Value.{isPrintable};
-ghost use Rattle.script.specs.Values.{WholeAt, ShownAt, ValueAt};
+ghost use Rattle.script.specs.Values.{ShownAt, ValueAt};
 use crate::Value;
-use crate::numbers;
-use crate::numbers::Number;
-use crate::places;
+use scan::Number;
 
 // A value, if one stands there.
 pub enum ValueRead {
@@ -16,45 +14,18 @@ pub enum ValueRead {
     None,
 }
 
-// A number that ends with the line.
-enum Whole {
-    Is(u64),
-    None,
-}
-
-// The number that is the line from at on, at most most.
-fn whole_at(line: &[u8], at: usize, most: u64) -> Whole
-    requires { ⌜ at ≤ length (now line) ⌝ }
-    requires { ⌜ most < 4294967296 ⌝ }
-    ensures { λ r. ⌜ WholeAt most (now (line .entry)) at r ⌝ }
-{
-    let Number::Is(n, next) = numbers::number_at(line, at, most) else {
-        return Whole::None;
-    };
-    if next < line.len() {
-        return Whole::None;
-    }
-    Whole::Is(n)
-}
-
-// A measure: a number with a minus sign if negative, within 32 signed bits. There is no -0.
+// A measure: a number of 32 signed bits that ends with the line.
 fn measure_at(line: &[u8], at: usize) -> ValueRead
     requires { ⌜ at ≤ length (now line) ⌝ }
     ensures { λ r. ⌜ ShownAt 77 (now (line .entry)) at r ⌝ }
 {
-    if !places::holds(line, at, b'-') {
-        let Whole::Is(n) = whole_at(line, at, 2147483647) else {
-            return ValueRead::None;
-        };
-        return ValueRead::Is(Value::Measure(n as u32));
-    }
-    let Whole::Is(n) = whole_at(line, at + 1, 2147483648) else {
+    let Number::Is(m, next) = scan::signed_at(line, at) else {
         return ValueRead::None;
     };
-    if n == 0 {
+    if next < line.len() {
         return ValueRead::None;
     }
-    ValueRead::Is(Value::Measure((4294967296 - n) as u32))
+    ValueRead::Is(Value::Measure(m as u32))
 }
 
 // Whether each byte from at on is printable.
@@ -90,7 +61,7 @@ fn text_at(line: &[u8], at: usize) -> ValueRead
 fn group_at(line: &[u8], at: usize) -> ValueRead
     ensures { λ r. ⌜ ShownAt 71 (now (line .entry)) at r ⌝ }
 {
-    if !places::holds(line, at, b'-') {
+    if !scan::holds(line, at, b'-') {
         return ValueRead::None;
     }
     if at + 1 < line.len() {
@@ -107,7 +78,7 @@ pub fn value_at(line: &[u8], at: usize) -> ValueRead
     if line.len() <= at {
         return ValueRead::None;
     }
-    if !places::holds(line, at + 1, b'\t') {
+    if !scan::holds(line, at + 1, b'\t') {
         return ValueRead::None;
     }
     match line[at] {

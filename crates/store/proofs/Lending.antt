@@ -46,6 +46,10 @@ module _ {b : List ℕ} {s : ℕ} (o : Own b s) where
     pub lent-formed : Formed (lentPart k b)
     lent-formed = own-part own-lent
 
+    -- what is lent is well formed for his label
+    pub lent-good : T (wellFormed s (lentPart k b))
+    lent-good = rw own-lent own-formed
+
     -- what is lent holds the subject's set
     pub lent-set : readPartition (lentPart k b) ≡ ownSet s (openModel b)
     lent-set = ap readPartition own-lent ∙ sym own-set

@@ -68,7 +68,8 @@ fn measure_all(plan: &Plan) -> io::Result<Report> {
         runs,
         floor: measure::floor(&vec![1; reference::STORE], rounds),
         calls: ELEMENTS.iter().flat_map(|elements| rows::calls(seed, *elements, rounds)).collect(),
-        refusals: rows::refusals(seed, rounds),
+        intakes: rows::intakes(seed, rounds),
+        refusals: [rows::refusals(seed, rounds), rows::intake_refusals(seed, rounds)].into_iter().flatten().collect(),
         runner: rows::runner(seed, lines, runs, &plan.root, &scratch)?,
         growth: rows::growth(seed, &GROWTH, rounds),
     })

@@ -18,9 +18,10 @@ subject's partition is laid back, a copy of 1,284 bytes that both times hold. Th
 labels, a single one has the subject's; all of them are live. The view of a path, Insert, Update and Delete take one
 element near the middle of its partition, of the subject's label and with nothing of it below; an insert's elements count
 the one that it inserts. An even grade has such an element for its top and the first of label 0 for its base, or the top
-again where there is no other; both are made measures. The well-formedness test is timed as a call that is refused right
-after it, for its path. The runner's time is a whole run of the program, from a file into a file. No text holds a character
-that XML escapes.
+again where there is no other; both are made measures. An XML intake has that first element, or the root, for its parent
+and finds the subject's partition empty; its elements count those that it makes. Its text has up to five levels, with
+siblings in random order. The well-formedness test is timed as a call that is refused right after it, for its path. The
+runner's time is a whole run of the program, from a file into a file. No text holds a character that XML escapes.
 ";
 /// The head of the table of growth.
 const GROWTH: &str = "As the store grows: a view of all by 31, its cost for each line (each visible element), and the
@@ -39,6 +40,7 @@ pub struct Report {
     pub runs: usize,
     pub floor: f64,
     pub calls: Vec<Row>,
+    pub intakes: Vec<Row>,
     pub refusals: Vec<Row>,
     pub runner: Row,
     pub growth: Vec<Growth>,
@@ -47,7 +49,7 @@ pub struct Report {
 impl Report {
     /// All rows that have a bar.
     fn rows(&self) -> impl Iterator<Item = &Row> {
-        self.calls.iter().chain(&self.refusals).chain(std::iter::once(&self.runner))
+        self.calls.iter().chain(&self.intakes).chain(&self.refusals).chain(std::iter::once(&self.runner))
     }
 
     /// The report as Markdown.
@@ -74,7 +76,8 @@ impl Report {
         let above: Vec<&Row> = self.rows().filter(|row| row.is_above()).collect();
         let grown = self.growth.iter().flat_map(|growth| [growth.view, growth.test]);
         let mut text = format!(
-            "The bar is 1.00 for View, as lines and as XML, the even grade and the well-formedness test, and 1.20 for the others.\n\
+            "The bar is 1.00 for View, as lines and as XML, the even grade, XML intake and the well-formedness test, and 1.20 for\n\
+             the others.\n\
              Above it are {} of the {} rows of the first table and {} of the {} ratios of the second.{}\n",
             above.len(),
             self.rows().count(),

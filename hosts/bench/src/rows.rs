@@ -4,7 +4,8 @@ use crate::side::{Call, Name};
 use crate::stores;
 use dossier::XML_BYTES_MAX;
 use reference::STORE;
-use reference::partition::partition;
+use reference::label::LABELS;
+use reference::partition::{PARTITION, partition};
 use reference::path::Path as ElementPath;
 use reference::random::Random;
 use reference::value::{GROUP, MEASURE};
@@ -14,12 +15,16 @@ use std::path::Path;
 use std::process::Command;
 use std::time::Instant;
 
-/// The bar for the views, the even grade and the well-formedness test.
+/// The bar for the views, the even grade, XML intake and the well-formedness test.
 pub const HIGH_BAR: f64 = 1.0;
 /// The bar for every other row.
 const BAR: f64 = 1.2;
 /// The lowest and the highest label.
 const SUBJECTS: [u8; 2] = [0, 31];
+/// How many elements the texts of XML intakes have.
+const TEXTS: [usize; 3] = [1, 8, 32];
+/// How many elements the store of an XML intake has before the subject's are taken out.
+const TEXT_STORE: usize = 256;
 /// How many stores are measured in turn.
 const STORES: u64 = 16;
 /// An output that each measured listing fits.
@@ -44,8 +49,8 @@ pub struct Growth {
 
 /// A call without inputs but for its subject and its path.
 fn call(name: Name, subject: u8, path: Vec<u8>) -> Call {
-    let (value, top) = (b"SLEEVE".to_vec(), Vec::new());
-    Call { name, subject: subject.into(), path, kind: 2, value, top, n: GRADE.1, output: SPACE }
+    let (value, top, text) = (b"SLEEVE".to_vec(), Vec::new(), Vec::new());
+    Call { name, subject: subject.into(), path, kind: 2, value, top, n: GRADE.1, text, output: SPACE }
 }
 
 /// A row that is still to be measured.
@@ -145,6 +150,51 @@ fn leaf(store: &[u8], label: u8) -> Vec<u8> {
     let is_leaf = |at: &usize| paths.get(at + 1).is_none_or(|next| !next.extends(&paths[*at]));
     let at = (paths.len() / 2..paths.len()).find(is_leaf).expect("the last path is a leaf");
     paths[at].bytes()
+}
+
+/// XML intakes by the lowest and the highest label, of texts with so many elements.
+pub fn intakes(seed: u64, rounds: usize) -> Vec<Row> {
+    let rows = TEXTS.into_iter().flat_map(|count| {
+        SUBJECTS.map(|subject| {
+            let cases = (0..STORES).map(|which| intake_case(seed, which, subject, count));
+            let name = format!("XML intake of {count} by {subject}");
+            Open { name, elements: elements_left() + count, bar: HIGH_BAR, work: gather(cases, 0) }
+        })
+    });
+    measured(rows.collect(), rounds)
+}
+
+/// XML intakes of the longest texts that are not in form, by the lowest and the highest label: a byte is another one.
+pub fn intake_refusals(seed: u64, rounds: usize) -> Vec<Row> {
+    let rows = ["first", "last"].into_iter().flat_map(|place| {
+        SUBJECTS.map(|subject| {
+            let cases = (0..STORES).map(|which| {
+                let (mut call, store) = intake_case(seed, which, subject, TEXTS[2]);
+                let at = if place == "first" { 0 } else { call.text.len() - 1 };
+                call.text[at] = b'x';
+                (call, store)
+            });
+            let name = format!("Refusal 13, XML intake by {subject}: not in form at its {place} byte");
+            Open { name, elements: elements_left(), bar: HIGH_BAR, work: gather(cases, 13) }
+        })
+    });
+    measured(rows.collect(), rounds)
+}
+
+/// How many elements an XML intake finds in the store.
+fn elements_left() -> usize {
+    TEXT_STORE - TEXT_STORE / usize::from(LABELS)
+}
+
+/// An XML intake of so many elements below the first element of label 0, or the root where there is none, in a store
+/// whose partition of the subject is empty.
+fn intake_case(seed: u64, which: u64, subject: u8, count: usize) -> (Call, Vec<u8>) {
+    let random = &mut random_of(seed, TEXT_STORE, which);
+    let mut store = stores::store(random, TEXT_STORE, subject);
+    store[PARTITION * usize::from(subject)..][..PARTITION].fill(0);
+    let parent = partition(&store, 0).slots().next().map_or_else(Vec::new, |slot| slot.path().bytes());
+    let text = stores::style(random, subject, count);
+    (Call { text, ..call(Name::InsertXml, subject, parent) }, store)
 }
 
 /// A refusal that is measured: its words, the elements of its stores, its number and how a case is made.

@@ -4,6 +4,7 @@ use reference::label::{LABELS, dominates};
 use reference::partition::partition;
 use reference::path::{DEPTH, Path, Step};
 use reference::random::Random;
+use reference::value::Value;
 
 /// A store with this many elements, spread evenly over the labels; a single one has the given label.
 pub fn store(random: &mut Random, elements: usize, single: u8) -> Vec<u8> {
@@ -48,6 +49,38 @@ fn value(random: &mut Random) -> (u32, Vec<u8>) {
         1 => (1, (random.bits() as i32 % 200_000).to_le_bytes().to_vec()),
         _ => (2, b"SLEEVE, LEFT CUFF"[..1 + random.below(16)].to_vec()),
     }
+}
+
+/// The text of a style with this many elements of this label, of five levels at most. Siblings are in random order.
+pub fn style(random: &mut Random, label: u8, count: usize) -> Vec<u8> {
+    let mut inside = vec![Vec::new(); count];
+    let mut levels = vec![1];
+    for at in 1..count {
+        let above: Vec<usize> = (0..at).filter(|above| levels[*above] < 5).collect();
+        let above = random.pick(&above);
+        inside[above].push(at);
+        levels.push(levels[above] + 1);
+    }
+    let mut names = Vec::new();
+    while names.len() < count {
+        let name = 1 + random.below(65_535);
+        if !names.contains(&name) {
+            names.push(name);
+        }
+    }
+    element(random, label, &names, &inside, 0).into_bytes()
+}
+
+/// The element of this place with those inside it, as a text has it.
+fn element(random: &mut Random, label: u8, names: &[usize], inside: &[Vec<usize>], at: usize) -> String {
+    let (kind, bytes) = value(random);
+    let value = match Value::read(kind, &bytes) {
+        Some(Value::Measure(number)) => number.to_string(),
+        _ => String::from_utf8_lossy(&bytes).into_owned(),
+    };
+    let (name, letter) = (names[at], ['G', 'M', 'T'][kind as usize]);
+    let contents: String = inside[at].iter().map(|below| element(random, label, names, inside, *below)).collect();
+    format!(r#"<e{name} label="{label}" preserve="PRESENT" kind="{letter}">{value}{contents}</e{name}>"#)
 }
 
 /// How many elements the script's store holds.

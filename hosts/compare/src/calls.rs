@@ -1,4 +1,5 @@
 //! The calls and the table of refusals.
+use crate::intake::{self, Element, Style};
 use crate::label::{dominates, is_label};
 use crate::listing;
 use crate::partition::{self, SLOTS, STORE, dominated, partition};
@@ -36,6 +37,8 @@ pub enum Refusal {
     Output = 10,
     Sizes = 11,
     NoMeasure = 12,
+    Form = 13,
+    NotOwn = 14,
 }
 
 /// The most sizes of a grade.
@@ -80,6 +83,11 @@ pub fn grade(store: &[u8], subject: u32, base: &[u8], top: &[u8], n: u32) -> Gra
         Ok((step, remainder)) => Grade { number: 0, step, remainder },
         Err(refusal) => Grade { number: refusal as u32, step: 0, remainder: 0 },
     }
+}
+
+/// Takes in a style: makes all elements that a text sends live, below the parent.
+pub fn insert_xml(store: &mut [u8], subject: u32, parent: &[u8], text: &[u8]) -> Answer {
+    answer(try_insert_xml(store, subject, parent, text))
 }
 
 /// The view, or why it is refused.
@@ -153,6 +161,28 @@ fn try_grade(store: &[u8], subject: u32, base: &[u8], top: &[u8], n: u32) -> Res
     let between = i64::from(top) - i64::from(base);
     let n = i64::from(n);
     Ok((between.div_euclid(n), between.rem_euclid(n) as u32))
+}
+
+/// The XML intake, or why it is refused. Where the top element is not live nothing of the subject's label extends it:
+/// the elements stand together.
+fn try_insert_xml(store: &mut [u8], subject: u32, parent: &[u8], text: &[u8]) -> Result<usize, Refusal> {
+    let subject = subject_of(store, subject)?;
+    let parent = Path::read(parent).ok_or(Refusal::Path)?;
+    let Style { count, is_own, mut elements } = intake::read(text, subject, &parent).ok_or(Refusal::Form)?;
+    if !is_own {
+        return Err(Refusal::NotOwn);
+    }
+    if !is_in_view(store, subject, &parent) {
+        return Err(Refusal::Absent);
+    }
+    let own = partition(store, subject);
+    let Err(at) = own.find(&elements[0].path) else { return Err(Refusal::Live) };
+    if own.count() + count > SLOTS {
+        return Err(Refusal::Full);
+    }
+    elements.sort_unstable_by_key(|element| element.path);
+    partition::put_slots(store, subject, at, elements.iter().map(Element::slot));
+    Ok(count)
 }
 
 /// Rows 1 to 3: the subject's label, if the store has the right length and its dominated partitions are well formed.

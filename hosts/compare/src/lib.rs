@@ -1,8 +1,9 @@
 //! Document 01 as a Rust program: the store's bytes, the four calls, the printed view and the call runner; and of
-//! document 02 the view as XML, the update that keeps what is below and the even grade. It is written from the
-//! documents alone and shares nothing with the product.
+//! document 02 the view as XML, the update that keeps what is below, the even grade and XML intake. It is written
+//! from the documents alone and shares nothing with the product.
 
 pub mod calls;
+mod intake;
 pub mod label;
 mod listing;
 pub mod partition;
@@ -12,5 +13,5 @@ pub mod script;
 pub mod value;
 mod xml;
 
-pub use calls::{Answer, Grade, delete, grade, insert, update, view, view_xml};
+pub use calls::{Answer, Grade, delete, grade, insert, insert_xml, update, view, view_xml};
 pub use partition::STORE;

@@ -191,6 +191,16 @@ pub fn put_slot(store: &mut [u8], label: u8, at: usize, slot: &[u8; SLOT]) {
     bytes[0] += 1;
 }
 
+/// Puts slots into a partition that has room for all of them, one behind the other, from this place on.
+pub fn put_slots(store: &mut [u8], label: u8, at: usize, put: impl ExactSizeIterator<Item = [u8; SLOT]>) {
+    let bytes = partition_mut(store, label);
+    let (count, more) = (usize::from(bytes[0]), put.len());
+    let slots = bytes[HEAD..].as_chunks_mut().0;
+    slots.copy_within(at..count, at + more);
+    slots[at..at + more].iter_mut().zip(put).for_each(|(slot, put)| *slot = put);
+    bytes[0] += more as u8;
+}
+
 /// Lays another content into the slot at this place of a partition.
 pub fn put_content(store: &mut [u8], label: u8, at: usize, content: &[u8; CONTENT]) {
     let slots = partition_mut(store, label)[HEAD..].as_chunks_mut::<SLOT>().0;

@@ -73,6 +73,18 @@ impl Path {
         Path { steps: self.steps, depth: self.depth.saturating_sub(1) }
     }
 
+    /// Adds a step, if there is room for it.
+    pub fn push(&mut self, step: Step) -> Option<()> {
+        *self.steps.get_mut(usize::from(self.depth))? = step;
+        self.depth += 1;
+        Some(())
+    }
+
+    /// Takes the last step off.
+    pub fn pop(&mut self) {
+        self.depth = self.depth.saturating_sub(1);
+    }
+
     /// Whether it is the other path or extends it.
     pub fn extends(&self, other: &Path) -> bool {
         self.steps().starts_with(other.steps())

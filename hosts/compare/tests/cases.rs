@@ -1,11 +1,11 @@
-//! Document 01's test cuts and examples of XML, of updates and of grades, run on the Rust program, and its
-//! well-formedness test, listing, XML, updates and grades against plain definitions.
+//! Document 01's test cuts and examples of XML, of updates, of grades and of XML intake, run on the Rust program, and
+//! its well-formedness test, listing, XML, updates, grades and XML intake against plain definitions.
 use reference::label::{LABELS, dominates};
 use reference::partition::{PARTITION, partition};
 use reference::path::{Path, Step};
 use reference::random::Random;
 use reference::value::{GROUP, MEASURE, TEXT, Value};
-use reference::{STORE, delete, grade, insert, script, update, view, view_xml};
+use reference::{STORE, delete, grade, insert, insert_xml, script, update, view, view_xml};
 use std::collections::BTreeMap;
 
 /// The bytes of a path given as names and labels.
@@ -485,6 +485,174 @@ fn grades_are_what_the_document_says() {
         }
     }
     assert!([0, 7, 11, 12].iter().all(|number| met[*number] > 100), "{met:?}");
+}
+
+/// A group with groups of these names inside it, all of one label, as a text.
+fn groups(top: u16, label: u8, names: &mut dyn Iterator<Item = u16>) -> String {
+    let group =
+        |name, inside: &str| format!(r#"<e{name} label="{label}" preserve="PRESENT" kind="G">{inside}</e{name}>"#);
+    group(top, &names.map(|name| group(name, "")).collect::<String>())
+}
+
+/// A text in which @ stands for what is between a name and a kind: label 16 and PRESENT.
+fn sent(short: &str) -> String {
+    short.replace('@', r#" label="16" preserve="PRESENT" kind="#)
+}
+
+#[test]
+fn examples_of_xml_intake() {
+    let mut store = vec![0; STORE];
+    group(&mut store, 0, &[(10, 0)]);
+    let examples = [
+        (16, &[(10, 0)][..], r#"<e20@"G"><e3@"M">-150</e3><e2@"T">a &lt; b</e2></e20>"#, 0, 3),
+        (16, &[(10, 0)], r#"<e20@"G"></e20>"#, 8, 0),
+        (16, &[], &format!(r#"<e1@"T">{}</e1>"#, "&amp;".repeat(16)), 0, 1),
+        (16, &[], &format!(r#"<e2@"T">{}</e2>"#, "&amp;".repeat(17)), 13, 0),
+        (16, &[], r#"<e3@"G"><e1@"G"></e1><e1@"G"></e1></e3>"#, 13, 0),
+        (16, &[], r#"<e3@"G"><e1@"G"></e1><e1 label="17" preserve="PRESENT" kind="G"></e1></e3>"#, 14, 0),
+        (16, &[], r#"<e3@"G"><e1 label="16" preserve="REMOVED" kind="-"></e1></e3>"#, 14, 0),
+        (16, &[], r#"<e3 label="16" preserve="REMOVED" kind="G"></e3>"#, 13, 0),
+        (16, &[], r#"<e3 label="16" preserve="REMOVED" kind="-">x</e3>"#, 13, 0),
+        (16, &[], r#"<e3@"-"></e3>"#, 13, 0),
+        (16, &[], r#"<e3 label="32" preserve="PRESENT" kind="G"></e3>"#, 13, 0),
+        (16, &[], r#"<e3 label="0" preserve="PRESENT" kind="G"></e3>"#, 14, 0),
+        (16, &[], r#"<e0@"G"></e0>"#, 13, 0),
+        (16, &[], r#"<e65536@"G"></e65536>"#, 13, 0),
+        (16, &[], r#"<e03@"G"></e03>"#, 13, 0),
+        (16, &[], r#"<e3 label="016" preserve="PRESENT" kind="G"></e3>"#, 13, 0),
+        (16, &[], r#"<e3@"M"></e3>"#, 13, 0),
+        (16, &[], r#"<e3@"M">-0</e3>"#, 13, 0),
+        (16, &[], r#"<e3@"M">2147483648</e3>"#, 13, 0),
+        (16, &[], r#"<e3@"M">-2147483648</e3>"#, 0, 1),
+        (16, &[], r#"<e4@"T"></e4>"#, 13, 0),
+        (16, &[], r#"<e4@"T">a>b</e4>"#, 13, 0),
+        (16, &[], r#"<e4@"T">&quot;</e4>"#, 13, 0),
+        (16, &[], r#"<e4@"G">x</e4>"#, 13, 0),
+        (16, &[], r#"<e4@"G"><e1@"G"></e1>x</e4>"#, 13, 0),
+        (16, &[], "<e4@\"G\"></e4>\n", 13, 0),
+        (16, &[], r#"<e4@"G"/>"#, 13, 0),
+        (16, &[], r#"<e4 @"G"></e4>"#, 13, 0),
+        (16, &[], r#"<e4 preserve="PRESENT" label="16" kind="G"></e4>"#, 13, 0),
+        (16, &[], r#"<e4@"G"></e5>"#, 13, 0),
+        (16, &[], r#"<dossier subject="16"><e4@"G"></e4></dossier>"#, 13, 0),
+        (16, &[], "", 13, 0),
+        (16, &[], r#"<e4@"G"></e4><e5@"G"></e5>"#, 13, 0),
+        (16, &[], r#"<e60 label="0" preserve="PRESENT" kind="G"></e60> "#, 13, 0),
+        (16, &[], r#"<e60@"G"><e61 label="0" preserve="PRESENT" kind="G"></e61></e60>"#, 14, 0),
+        (16, &[], r#"<e60 label="16" preserve="REMOVED" kind="-"></e60>"#, 14, 0),
+        (16, &[], r#"<e60 label="16" preserve="REMOVED" kind="-"><e61@"M">7</e61></e60>"#, 14, 0),
+        (40, &[], r#"<e4@"G"></e4>"#, 2, 0),
+        (16, &[(1, 0), (2, 0), (3, 0), (4, 0), (5, 0), (6, 0)], r#"<e4@"G"></e4>"#, 13, 0),
+        (16, &[(11, 0)], r#"<e4@"G"></e4>"#, 7, 0),
+        (16, &[(11, 0)], r#"<e4 label="0" preserve="PRESENT" kind="G"></e4>"#, 14, 0),
+        (16, &[(0, 0)], "<", 4, 0),
+        (0, &[(10, 0), (20, 16)], r#"<e4 label="0" preserve="PRESENT" kind="G"></e4>"#, 7, 0),
+        (16, &[(10, 0), (20, 16), (2, 16)], r#"<e9@"G"><e9@"G"><e9@"G"><e9@"G"></e9></e9></e9></e9>"#, 13, 0),
+        (16, &[(10, 0), (20, 16), (2, 16)], r#"<e9@"G"><e9@"G"><e9@"G"></e9></e9></e9>"#, 0, 3),
+        (16, &[], &groups(50, 16, &mut (1..32)), 9, 0),
+        (17, &[], &groups(50, 17, &mut (1..32).rev()), 0, 32),
+        (17, &[], r#"<e51 label="17" preserve="PRESENT" kind="G"></e51>"#, 9, 0),
+    ];
+    for (subject, parent, short, number, count) in examples {
+        let before = store.clone();
+        let answer = insert_xml(&mut store, subject, &path(parent), sent(short).as_bytes());
+        assert_eq!((answer.number, answer.count), (number, count), "{subject} {parent:?} {short}");
+        assert!(number == 0 || store == before, "{subject} {parent:?} {short}");
+    }
+    let e2 = r#"<e2@"T">a &lt; b<e9@"G"><e9@"G"><e9@"G"></e9></e9></e9></e2>"#;
+    let back = format!(r#"<dossier subject="16"><e20@"G">{e2}<e3@"M">-150</e3></e20></dossier>"#);
+    assert_eq!(xml(&store, 16, &[(10, 0), (20, 16)], 1000), (0, sent(&back)));
+}
+
+#[test]
+fn the_first_refusals_of_xml_intake() {
+    let mut store = vec![0; STORE];
+    let number = |store: &mut [u8], subject| insert_xml(store, subject, &[1], b"").number;
+    assert_eq!(number(&mut store[1..], 40), 1);
+    assert_eq!(number(&mut store, 40), 2);
+    assert_eq!(number(&mut store, 287), 2);
+    store[16 * PARTITION + 1] = 1;
+    assert_eq!(number(&mut store, 16), 3);
+    assert_eq!(number(&mut store, 15), 4);
+    assert_eq!(insert_xml(&mut store, 15, &[], b"").number, 13);
+}
+
+/// A random style of one label below a parent: its elements with their kinds and values.
+fn style(random: &mut Random, parent: &[Step], label: u8, count: usize) -> BTreeMap<Path, (u32, Vec<u8>)> {
+    let mut elements = BTreeMap::new();
+    let mut above = parent.to_vec();
+    while elements.len() < count {
+        let name = 1 + random.below(if elements.is_empty() { 6 } else { 300 }) as u16;
+        let path = Path::new(&[&above[..], &[Step { name, label }]].concat());
+        let number = random.bits() as i32;
+        let text: Vec<u8> = (0..1 + random.below(16)).map(|_| 32 + random.below(95) as u8).collect();
+        let values = [(GROUP, Vec::new()), (MEASURE, number.to_le_bytes().to_vec()), (TEXT, text)];
+        elements.entry(path).or_insert_with(|| values[random.below(3)].clone());
+        let paths: Vec<Path> = elements.keys().copied().filter(|path| path.depth() < 6).collect();
+        above = if paths.is_empty() { break } else { random.pick(&paths).steps().to_vec() };
+    }
+    elements
+}
+
+/// The text of the elements directly below a path, each with its contents; siblings are brought into some order before.
+fn style_text(style: &BTreeMap<Path, (u32, Vec<u8>)>, above: &Path, arrange: &mut dyn FnMut(&mut [&Path])) -> String {
+    let mut siblings: Vec<&Path> = style.keys().filter(|path| path.parent() == *above).collect();
+    arrange(&mut siblings);
+    let element = |path: &&Path| {
+        let Step { name, label } = path.steps()[path.depth() - 1];
+        let (kind, value) = match &style[path] {
+            (MEASURE, bytes) => ("M", i32::from_le_bytes(bytes[..].try_into().expect("four bytes")).to_string()),
+            (TEXT, bytes) => ("T", String::from_utf8_lossy(bytes).into_owned()),
+            _ => ("G", String::new()),
+        };
+        let value = value.replace('&', "&amp;").replace('<', "&lt;").replace('>', "&gt;");
+        let inside = style_text(style, path, arrange);
+        format!(r#"<e{name} label="{label}" preserve="PRESENT" kind="{kind}">{value}{inside}</e{name}>"#)
+    };
+    siblings.iter().map(element).collect()
+}
+
+#[test]
+fn xml_intake_does_what_the_document_says() {
+    let mut random = Random::new(9);
+    let mut met = [0; 15];
+    for _ in 0..500 {
+        let mut store = grown(&mut random);
+        let before = elements(&store);
+        let parents: Vec<Path> = before.keys().copied().filter(|path| path.depth() < 6).collect();
+        let parent = if random.percent(30) { Path::default() } else { random.pick(&parents) };
+        let label = parent.label().unwrap_or(random.below(32) as u8);
+        let count = 1 + random.below(34);
+        let style = style(&mut random, parent.steps(), label, count);
+        let text = style_text(&style, &parent, &mut |siblings| {
+            for at in 1..siblings.len() {
+                siblings.swap(at, random.below(at + 1));
+            }
+        });
+        let answer = insert_xml(&mut store, label.into(), &parent.bytes(), text.as_bytes());
+        met[answer.number as usize] += 1;
+        let top = *style.keys().next().expect("a top element");
+        let held = before.keys().filter(|path| path.label() == Some(label)).count();
+        let expected = match () {
+            () if before.contains_key(&top) => 8,
+            () if held + style.len() > 32 => 9,
+            () => 0,
+        };
+        assert_eq!(answer.number, expected, "{text}");
+        assert_eq!(answer.count, if expected == 0 { style.len() as u64 } else { 0 });
+        let mut after = before;
+        if expected == 0 {
+            let words = |(kind, value): &(u32, Vec<u8>)| format!("{:?}", Value::read(*kind, value));
+            after.extend(style.iter().map(|(path, value)| (*path, words(value))));
+            let back = style_text(&style, &parent, &mut |_| ());
+            let steps: Vec<(u16, u8)> = top.steps().iter().map(|step| (step.name, step.label)).collect();
+            let tagged = format!(r#"<dossier subject="{label}">{back}</dossier>"#);
+            assert_eq!(xml(&store, label.into(), &steps, 10_000), (0, tagged));
+        }
+        assert_eq!(elements(&store), after);
+        assert!((0..LABELS).all(|label| partition(&store, label).is_well_formed()));
+    }
+    assert!([0, 8, 9].iter().all(|number| met[*number] > 30), "{met:?}");
 }
 
 #[test]

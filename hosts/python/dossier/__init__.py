@@ -44,6 +44,15 @@ The even grade from this sleeve to a wider one in three sizes, 1000 being 3 × 3
     >>> store.grade(house_subject, sleeve, wider, 3)
     Grade(step=333, remainder=1)
 
+A style sent as XML, all of it at once, a group with a measure inside it, and the same read back:
+
+    >>> cuff = '<e4 label="16" preserve="PRESENT" kind="M">2400</e4>'
+    >>> sent = f'<e30 label="16" preserve="PRESENT" kind="G">{cuff}</e30>'
+    >>> store.insert_xml(house_subject, style, sent)
+    2
+    >>> store.view_xml(house_subject, style + [Step(30, house_subject)]) == f'<dossier subject="16">{sent}</dossier>'
+    True
+
 A refusal has a number and changes nothing:
 
     >>> try:

@@ -58,21 +58,23 @@ class ExportedGrade(ctypes.Structure):
 
 
 class Refusal(IntEnum):
-    """Why a call is refused: the first cause that applies, in this order but for 11, which a grade tests right after 4. A refused
-    call leaves the store and the output."""
+    """Why a call is refused: the first cause that applies, in this order but for 11, which a grade tests right after 4, and 13
+    and 14, which an XML intake tests there. A refused call leaves the store and the output."""
 
     STORE_LENGTH = 1  # the store is not 41,088 bytes long
     SUBJECT = 2  # the subject is no label
     NOT_WELL_FORMED = 3  # a partition that the subject dominates is not well formed
-    PATH = 4  # the path is none, or it is the root's and the call is neither a view nor a grade; of a grade, either path
+    PATH = 4  # the path is none, or it is the root's and the call is no view, no grade and no XML intake; of a grade, either path
     VALUE = 5  # the kind, or the value's length or bytes, are not allowed
     OTHER_LABEL = 6  # the path's last label is not the subject's
-    ABSENT = 7  # the path of a view, the parent of an insert or either path of a grade is not in view, or the element is not live
-    LIVE = 8  # the element of an insert is live already
-    FULL = 9  # the subject's partition holds 32 elements
+    ABSENT = 7  # the path of a view or a grade, or the parent of what comes, is not in view, or the element is not live
+    LIVE = 8  # the element of an insert, or the top element of an XML intake, is live already
+    FULL = 9  # the subject's partition holds 32 elements, or would hold more with those of an XML intake
     OUTPUT_SHORT = 10  # the output is shorter than the listing or the XML
     SIZES = 11  # the number of sizes of a grade is not 1 to 64
     NO_MEASURE = 12  # both paths of a grade are in view, and either is no live measure's
+    FORM = 13  # the text of an XML intake is not in form
+    NOT_OWN = 14  # a label in the text of an XML intake is not the subject's, or an element there is removed
 
 
 class Refused(Exception):

@@ -1,8 +1,8 @@
 """The calls on lent bytes, of any length, and on numbers of 32 bits, which reach the library as they are.
 
-A store or an output that is written is any writable buffer (a bytearray, an mmap, a memoryview of one); a path, a value and the
-store of a view or a grade may be bytes too. `include/dossier.h` says what the calls do. What they ask of a host is seen to
-here: a buffer that is written and overlaps another one of the call raises ValueError, and a call keeps other Python threads
+A store or an output that is written is any writable buffer (a bytearray, an mmap, a memoryview of one); a path, a value, a text
+and the store of a view or a grade may be bytes too. `include/dossier.h` says what the calls do. What they ask of a host is seen
+to here: a buffer that is written and overlaps another one of the call raises ValueError, and a call keeps other Python threads
 waiting.
 """
 import ctypes
@@ -35,6 +35,7 @@ _DECLARED = {
     "dossier_update": (_BUFFER + _WORD + _BUFFER + _WORD + _BUFFER, ExportedAnswer),
     "dossier_delete": (_BUFFER + _WORD + _BUFFER, ExportedAnswer),
     "dossier_grade": (_BUFFER + _WORD + _BUFFER + _BUFFER + _WORD, ExportedGrade),
+    "dossier_insert_xml": (_BUFFER + _WORD + _BUFFER + _BUFFER, ExportedAnswer),
 }
 
 
@@ -128,6 +129,14 @@ def grade(store, subject, base, top, n):
     store, base, top = _read(store), _read(base), _read(top)
     exported = _library.dossier_grade(*_lend(store), _word(subject), *_lend(base), *_lend(top), _word(n))
     return GradeAnswer(exported.number, exported.step, exported.remainder)
+
+
+def insert_xml(store, subject, parent, text):
+    """XML intake: makes all elements of a style, sent as one XML element, below the parent, or none. Count: how many were
+    made."""
+    store, parent, text = _written(store), _read(parent), _read(text)
+    _apart(store, parent, text)
+    return _answer(_library.dossier_insert_xml(*_lend(store), _word(subject), *_lend(parent), *_lend(text)))
 
 
 def _look(function, store, subject, path, output):

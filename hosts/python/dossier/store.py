@@ -45,3 +45,9 @@ class Store:
         """The even grade between two live measures that the subject sees, in n sizes, 1 to 64. The step is rounded down, also
         where the top is smaller: from 1000 to 990 in 3 sizes it is -4, and 2 are left."""
         return raw.grade(self.buffer, subject.number, path_bytes(base), path_bytes(top), n).outcome()
+
+    def insert_xml(self, subject, parent, text):
+        """XML intake: takes in a style, sent as one XML element as view_xml writes it, without the dossier tag and with siblings
+        in any order. All of its elements are made below the parent, or none; the parent must be in view, be it removed. The
+        count: how many elements were made."""
+        return raw.insert_xml(self.buffer, subject.number, path_bytes(parent), text.encode()).outcome()

@@ -9,7 +9,8 @@ use std::fmt;
 pub struct Answer {
     /// 0 if the call is done, else the number of the refusal.
     pub number: u32,
-    /// The bytes that a view wrote, the elements that a delete took, or 1 for the element that an update replaced; else 0.
+    /// The bytes that a view wrote, the elements that a delete took or an XML intake made, or 1 for the element that an update
+    /// replaced; else 0.
     pub count: u64,
 }
 
@@ -59,8 +60,8 @@ pub struct Grade {
     pub remainder: u32,
 }
 
-/// Why a call is refused: the first cause that applies, in this order but for 11, which a grade tests right after 4. A refused
-/// call leaves the store and the output.
+/// Why a call is refused: the first cause that applies, in this order but for 11, which a grade tests right after 4, and 13 and
+/// 14, which an XML intake tests there. A refused call leaves the store and the output.
 #[derive(Clone, Copy, Debug, PartialEq, Eq, PartialOrd, Ord, Hash)]
 pub enum Refusal {
     /// 1: the store is not 41,088 bytes long.
@@ -69,18 +70,18 @@ pub enum Refusal {
     Subject = 2,
     /// 3: a partition that the subject dominates is not well formed.
     NotWellFormed = 3,
-    /// 4: the path is none, or it is the root's and the call is neither a view nor a grade; of a grade, either path.
+    /// 4: the path is none, or it is the root's and the call is no view, no grade and no XML intake; of a grade, either path.
     Path = 4,
     /// 5: the kind, or the value's length or bytes, are not allowed.
     Value = 5,
     /// 6: the path's last label is not the subject's.
     OtherLabel = 6,
-    /// 7: the path of a view, the parent of an insert or either path of a grade is not in view, or the element of an update or a
-    /// delete is not live.
+    /// 7: the path of a view, the parent of an insert or an XML intake or either path of a grade is not in view, or the element of
+    /// an update or a delete is not live.
     Absent = 7,
-    /// 8: the element of an insert is live already.
+    /// 8: the element of an insert, or the top element of an XML intake, is live already.
     Live = 8,
-    /// 9: the subject's partition holds 32 elements.
+    /// 9: the subject's partition holds 32 elements, or would hold more with those of an XML intake.
     Full = 9,
     /// 10: the output is shorter than the listing or the XML.
     OutputShort = 10,
@@ -89,11 +90,15 @@ pub enum Refusal {
     /// 12: both paths of a grade are in view, and either is no live measure's: a group's, a text's, a removed element's or the
     /// root's.
     NoMeasure = 12,
+    /// 13: the text of an XML intake is not in form.
+    Form = 13,
+    /// 14: a label in the text of an XML intake is not the subject's, or an element there is removed.
+    NotOwn = 14,
 }
 
 impl Refusal {
     /// All refusals, in the order of their numbers.
-    pub const ALL: [Refusal; 12] = [
+    pub const ALL: [Refusal; 14] = [
         Refusal::StoreLength,
         Refusal::Subject,
         Refusal::NotWellFormed,
@@ -106,6 +111,8 @@ impl Refusal {
         Refusal::OutputShort,
         Refusal::Sizes,
         Refusal::NoMeasure,
+        Refusal::Form,
+        Refusal::NotOwn,
     ];
 
     /// The number that the call answers.
@@ -129,10 +136,12 @@ impl Refusal {
             Refusal::OtherLabel => "the path's last label is not the subject's",
             Refusal::Absent => "the path or its parent is not in view, or the element is not live",
             Refusal::Live => "the element is live already",
-            Refusal::Full => "the subject's partition is full",
+            Refusal::Full => "the subject's partition has no room for it",
             Refusal::OutputShort => "the output is shorter than the listing or the XML",
             Refusal::Sizes => "the number of sizes is not 1 to 64",
             Refusal::NoMeasure => "a path of the grade is no live measure's",
+            Refusal::Form => "the text is not in form",
+            Refusal::NotOwn => "a label of the text is not the subject's, or an element of it is removed",
         }
     }
 }
@@ -199,7 +208,7 @@ mod tests {
     #[test]
     fn an_unexpected_answer_is_kept_whole() {
         for answer in
-            [Answer { number: 13, count: 0 }, Answer { number: 7, count: 1 }, Answer { number: u32::MAX, count: u64::MAX }]
+            [Answer { number: 15, count: 0 }, Answer { number: 7, count: 1 }, Answer { number: u32::MAX, count: u64::MAX }]
         {
             assert_eq!(answer.outcome(), Err(Error::Unexpected(answer)));
             assert_eq!(Error::Unexpected(answer).answer(), Some(answer));
@@ -215,7 +224,7 @@ mod tests {
             assert_eq!(answer(number, 0, 0).outcome(), Err(Error::Refused(refusal)));
         }
         for answer in
-            [answer(13, 0, 0), answer(7, 1, 0), answer(7, -1, 0), answer(12, 0, 1), answer(u32::MAX, i64::MIN, u32::MAX)]
+            [answer(15, 0, 0), answer(7, 1, 0), answer(7, -1, 0), answer(12, 0, 1), answer(u32::MAX, i64::MIN, u32::MAX)]
         {
             assert_eq!(answer.outcome(), Err(Error::UnexpectedGrade(answer)));
             assert_eq!(Error::UnexpectedGrade(answer).answer(), None);
@@ -226,6 +235,7 @@ mod tests {
     fn a_refusal_says_its_number() {
         assert_eq!(Error::Refused(Refusal::Subject).to_string(), "refused by 2: the subject is no label");
         assert_eq!(Error::Refused(Refusal::NoMeasure).to_string(), "refused by 12: a path of the grade is no live measure's");
+        assert_eq!(Error::Refused(Refusal::Form).to_string(), "refused by 13: the text is not in form");
         let unexpected = Error::UnexpectedGrade(GradeAnswer { number: 7, step: -1, remainder: 2 });
         assert_eq!(unexpected.to_string(), "unexpected answer: number 7, step -1, remainder 2");
     }

@@ -49,6 +49,14 @@
 //! store.insert(house, &wider, Value::Measure(850))?;
 //! assert_eq!(store.grade(house, &sleeve, &wider, 3)?, Grade { step: 333, remainder: 1 });
 //!
+//! // A style sent as XML, all of it at once: a group with a measure inside it.
+//! let cuff = r#"<e4 label="16" preserve="PRESENT" kind="M">2400</e4>"#;
+//! let sent = format!(r#"<e30 label="16" preserve="PRESENT" kind="G">{cuff}</e30>"#);
+//! assert_eq!(store.insert_xml(house, &style, &sent)?, 2);
+//! let mut output = [0; 200];
+//! let xml = store.view_xml(house, &style.child(30, house), &mut output)?;
+//! assert_eq!(xml, format!(r#"<dossier subject="16">{sent}</dossier>"#));
+//!
 //! // A refusal has a number and changes nothing.
 //! let refused = store.delete(open, &style);
 //! assert_eq!(refused, Err(Error::Refused(Refusal::Absent)));

@@ -57,6 +57,15 @@ mod exported {
             top_length: usize,
             n: u32,
         ) -> GradeAnswer;
+        pub fn dossier_insert_xml(
+            store: *mut u8,
+            store_length: usize,
+            subject: u32,
+            parent: *const u8,
+            parent_length: usize,
+            text: *const u8,
+            text_length: usize,
+        ) -> Answer;
     }
 }
 
@@ -131,5 +140,21 @@ pub fn grade(store: &[u8], subject: u32, base: &[u8], top: &[u8], n: u32) -> Gra
     // SAFETY: each pointer reaches as many bytes as its length says; nothing is written.
     unsafe {
         exported::dossier_grade(store.as_ptr(), store.len(), subject, base.as_ptr(), base.len(), top.as_ptr(), top.len(), n)
+    }
+}
+
+/// XML intake: makes all elements of a style, sent as one XML element, below the parent, or none. Count: how many were made.
+pub fn insert_xml(store: &mut [u8], subject: u32, parent: &[u8], text: &[u8]) -> Answer {
+    // SAFETY: each pointer reaches as many bytes as its length says; the store overlaps nothing, being a `&mut`.
+    unsafe {
+        exported::dossier_insert_xml(
+            store.as_mut_ptr(),
+            store.len(),
+            subject,
+            parent.as_ptr(),
+            parent.len(),
+            text.as_ptr(),
+            text.len(),
+        )
     }
 }

@@ -109,4 +109,11 @@ impl Store<'_> {
     pub fn grade(&self, subject: Label, base: &Path, top: &Path, n: u32) -> Result<Grade, Error> {
         raw::grade(self.as_bytes(), subject.number(), base.as_bytes(), top.as_bytes(), n).outcome()
     }
+
+    /// XML intake: takes in a style, sent as one XML element as [`view_xml`](Store::view_xml) writes it, without the dossier tag
+    /// and with siblings in any order. All of its elements are made below the parent, or none; the parent must be in view, be it
+    /// removed. The count: how many elements were made.
+    pub fn insert_xml(&mut self, subject: Label, parent: &Path, text: &str) -> Result<u64, Error> {
+        raw::insert_xml(self.as_mut_bytes(), subject.number(), parent.as_bytes(), text.as_bytes()).outcome()
+    }
 }

@@ -1,5 +1,5 @@
 //! The calls through the package: document 01's example, every refusal, what is left untouched, what an update keeps, XML read
-//! back, and grades.
+//! back, grades, and styles taken in as XML.
 
 use dossier::{
     raw, Answer, Error, Grade, GradeAnswer, Label, Line, Mark, Path, Refusal, Store, Value, LISTING_BYTES_MAX, PARTITION_BYTES,
@@ -56,10 +56,12 @@ enum Call<'a> {
     Insert(&'a [u8], u32, &'a [u8]),
     Update(&'a [u8], u32, &'a [u8]),
     Delete(&'a [u8]),
+    InsertXml(&'a [u8], &'a str),
 }
 
-/// Each call of one path, the three that only read the store first, with nothing else to be refused.
-fn each_call(path: &[u8]) -> [Call<'_>; 6] {
+/// Each call of one path, the three that only read the store first and XML intake last, with nothing else to be refused but for
+/// the label of the text, 0.
+fn each_call(path: &[u8]) -> [Call<'_>; 7] {
     [
         Call::View(path, 64),
         Call::ViewXml(path, 64),
@@ -67,6 +69,7 @@ fn each_call(path: &[u8]) -> [Call<'_>; 6] {
         Call::Insert(path, 0, &[]),
         Call::Update(path, 0, &[]),
         Call::Delete(path),
+        Call::InsertXml(path, r#"<e4 label="0" preserve="PRESENT" kind="G"></e4>"#),
     ]
 }
 
@@ -83,6 +86,7 @@ fn perform(store: &mut [u8], subject: u32, call: Call, output: &mut [u8]) -> Ans
         Call::Insert(path, kind, value) => raw::insert(store, subject, path, kind, value),
         Call::Update(path, kind, value) => raw::update(store, subject, path, kind, value),
         Call::Delete(path) => raw::delete(store, subject, path),
+        Call::InsertXml(parent, text) => raw::insert_xml(store, subject, parent, text.as_bytes()),
     }
 }
 
@@ -216,6 +220,7 @@ fn refusal_1_store_of_another_length() {
         assert_eq!(store.insert(label(0), &path(&[(10, 0)]), Value::Group), refused(Refusal::StoreLength));
         assert_eq!(store.update(label(0), &path(&[(10, 0)]), Value::Group), refused(Refusal::StoreLength));
         assert_eq!(store.delete(label(0), &path(&[(10, 0)])), refused(Refusal::StoreLength));
+        assert_eq!(store.insert_xml(label(0), &Path::root(), ""), refused(Refusal::StoreLength));
     }
 }
 
@@ -244,6 +249,8 @@ fn refusal_3_partition_not_well_formed() {
     assert_eq!(store.view_xml(label(16), &Path::root(), &mut [0; 64]), refused(Refusal::NotWellFormed));
     assert_eq!(store.grade(label(16), &Path::root(), &Path::root(), 1), refused(Refusal::NotWellFormed));
     assert_eq!(store.grade(label(15), &Path::root(), &Path::root(), 1), refused(Refusal::NoMeasure));
+    assert_eq!(store.insert_xml(label(16), &Path::root(), ""), refused(Refusal::NotWellFormed));
+    assert_eq!(store.insert_xml(label(15), &Path::root(), ""), refused(Refusal::Form));
 }
 
 #[test]
@@ -284,7 +291,7 @@ fn refusals_6_7_and_8_of_the_place() {
     }
     assert_eq!(store.insert(label(0), &path(&[(10, 0)]), Value::Group), Ok(0));
     assert_eq!(store.insert(label(16), &path(&[(10, 16)]), Value::Group), Ok(0));
-    for call in each_call(P10).into_iter().skip(3) {
+    for call in each_call(P10).into_iter().skip(3).take(3) {
         assert_refused(store.as_mut_bytes(), 16, call, 6);
     }
     assert_refused(store.as_mut_bytes(), 0, Call::View(P10_16, 64), 7);
@@ -560,5 +567,160 @@ fn a_grade_divides_every_difference() {
             assert_eq!(i64::from(n) * step + i64::from(remainder), i64::from(to) - i64::from(from), "{from} {to} {n}");
             assert!(remainder < n, "{from} {to} {n}");
         }
+    }
+}
+
+/// A text in which @ stands for what is between a name and a kind: label 16 and PRESENT.
+fn sent(short: &str) -> String {
+    short.replace('@', r#" label="16" preserve="PRESENT" kind="#)
+}
+
+/// A group of a label with groups of these names inside it.
+fn sent_groups(top: u16, number: u32, names: impl Iterator<Item = u16>) -> String {
+    let group = |name, inside: &str| format!(r#"<e{name} label="{number}" preserve="PRESENT" kind="G">{inside}</e{name}>"#);
+    group(top, &names.map(|name| group(name, "")).collect::<String>())
+}
+
+/// A store with 10:0, a group.
+fn with_style() -> Store<'static> {
+    let mut store = Store::empty();
+    assert_eq!(store.insert(label(0), &path(&[(10, 0)]), Value::Group), Ok(0));
+    store
+}
+
+/// What a subject sees of a path, as XML.
+fn xml(store: &Store, subject: u32, steps: &[(u16, u32)]) -> String {
+    let mut output = vec![0; XML_BYTES_MAX];
+    store.view_xml(label(subject), &path(steps), &mut output).expect("a view as XML").to_string()
+}
+
+#[test]
+fn styles_of_the_worked_examples() {
+    let mut store = with_style();
+    let amps = "&amp;".repeat(16);
+    let nines = |depth: usize| (0..depth).fold(String::new(), |inside, _| format!(r#"<e9@"G">{inside}</e9>"#));
+    let (style, sleeve) = (&[(10, 0)][..], &[(10, 0), (20, 16), (2, 16)][..]);
+    for (steps, short, outcome) in [
+        (style, r#"<e20@"G"><e3@"M">-150</e3><e2@"T">a &lt; b</e2></e20>"#, Ok(3)),
+        (style, r#"<e20@"G"></e20>"#, refused(Refusal::Live)),
+        (&[], &format!(r#"<e1@"T">{amps}</e1>"#), Ok(1)),
+        (&[], &format!(r#"<e2@"T">{amps}&amp;</e2>"#), refused(Refusal::Form)),
+        (&[], r#"<e3@"M">-2147483648</e3>"#, Ok(1)),
+        (&[(1, 0), (2, 0), (3, 0), (4, 0), (5, 0), (6, 0)], r#"<e4@"G"></e4>"#, refused(Refusal::Form)),
+        (&[(11, 0)], r#"<e4@"G"></e4>"#, refused(Refusal::Absent)),
+        (&[(11, 0)], r#"<e4 label="0" preserve="PRESENT" kind="G"></e4>"#, refused(Refusal::NotOwn)),
+        (&[(0, 0)], "<", refused(Refusal::Path)),
+        (sleeve, &nines(4), refused(Refusal::Form)),
+        (sleeve, &nines(3), Ok(3)),
+    ] {
+        assert_eq!(store.insert_xml(label(16), &path(steps), &sent(short)), outcome, "{steps:?} {short}");
+    }
+    assert_refused(store.as_mut_bytes(), 40, Call::InsertXml(&[], &sent(r#"<e4@"G"></e4>"#)), 2);
+    assert_refused(store.as_mut_bytes(), 0, Call::InsertXml(P10_20, &sent_groups(4, 0, 0..0)), 7);
+    assert_refused(store.as_mut_bytes(), 16, Call::InsertXml(&[], &sent_groups(50, 16, 1..32)), 9);
+    assert_eq!(store.insert_xml(label(17), &Path::root(), &sent_groups(50, 17, (1..32).rev())), Ok(32));
+    assert_refused(store.as_mut_bytes(), 17, Call::InsertXml(&[], &sent_groups(51, 17, 0..0)), 9);
+    assert_eq!(xml(&store, 17, &[(50, 17)]), format!(r#"<dossier subject="17">{}</dossier>"#, sent_groups(50, 17, 1..32)));
+    let e2 = format!(r#"<e2@"T">a &lt; b{}</e2>"#, nines(3));
+    let e20 = sent(&format!(r#"<e20@"G">{e2}<e3@"M">-150</e3></e20>"#));
+    assert_eq!(xml(&store, 16, &[(10, 0), (20, 16)]), format!(r#"<dossier subject="16">{e20}</dossier>"#));
+}
+
+#[test]
+fn refusal_13_what_is_not_in_form() {
+    let mut store = with_style();
+    for short in [
+        r#"<e3@"G"><e1@"G"></e1><e1@"G"></e1></e3>"#,
+        r#"<e3@"G"><e1@"G"></e1><e2@"G"></e2><e1@"M">7</e1></e3>"#,
+        r#"<e3 label="16" preserve="REMOVED" kind="G"></e3>"#,
+        r#"<e3 label="16" preserve="REMOVED" kind="-">x</e3>"#,
+        r#"<e3@"-"></e3>"#,
+        r#"<e3 label="32" preserve="PRESENT" kind="G"></e3>"#,
+        r#"<e0@"G"></e0>"#,
+        r#"<e65536@"G"></e65536>"#,
+        r#"<e03@"G"></e03>"#,
+        r#"<e3 label="016" preserve="PRESENT" kind="G"></e3>"#,
+        r#"<e3@"M"></e3>"#,
+        r#"<e3@"M">-0</e3>"#,
+        r#"<e3@"M">+5</e3>"#,
+        r#"<e3@"M">007</e3>"#,
+        r#"<e3@"M">2147483648</e3>"#,
+        r#"<e3@"M">-2147483649</e3>"#,
+        r#"<e4@"T"></e4>"#,
+        r#"<e4@"T">a>b</e4>"#,
+        r#"<e4@"T">&quot;</e4>"#,
+        r#"<e4@"T">&#65;</e4>"#,
+        r#"<e4@"T">SEVENTEEN LETTERS</e4>"#,
+        r#"<e4@"T"><![CDATA[a]]></e4>"#,
+        "<e4@\"T\">\t</e4>",
+        r#"<e4@"T">ä</e4>"#,
+        r#"<e4@"G">x</e4>"#,
+        r#"<e4@"G"><e1@"G"></e1>x</e4>"#,
+        "<e4@\"G\"></e4>\n",
+        " <e4@\"G\"></e4>",
+        r#"<e4@"G"/>"#,
+        r#"<e4@'G'></e4>"#,
+        r#"<e4@"G" ></e4>"#,
+        r#"<e4@"G"></e4 >"#,
+        r#"<e4  label="16" preserve="PRESENT" kind="G"></e4>"#,
+        r#"<e4 preserve="PRESENT" label="16" kind="G"></e4>"#,
+        r#"<e4@"G"></e5>"#,
+        r#"<e4@"G"></e04>"#,
+        r#"<e4@"G"></e4"#,
+        r#"<!-- --><e4@"G"></e4>"#,
+        r#"<?xml version="1.0"?><e4@"G"></e4>"#,
+        r#"<dossier subject="16"><e4@"G"></e4></dossier>"#,
+        "",
+        r#"<e4@"G"></e4><e5@"G"></e5>"#,
+        r#"<e60 label="0" preserve="PRESENT" kind="G"></e60> "#,
+    ] {
+        let text = sent(short);
+        assert_refused(store.as_mut_bytes(), 16, Call::InsertXml(&[], &text), 13);
+        assert_eq!(store.insert_xml(label(16), &path(&[(11, 0)]), &text), refused(Refusal::Form), "{short}");
+    }
+    assert_eq!(raw::insert_xml(store.as_mut_bytes(), 16, &[], b"<e4\xff"), Answer { number: 13, count: 0 });
+}
+
+#[test]
+fn refusal_14_what_is_not_the_subjects_or_removed() {
+    let mut store = with_style();
+    for short in [
+        r#"<e3@"G"><e1@"G"></e1><e1 label="17" preserve="PRESENT" kind="G"></e1></e3>"#,
+        r#"<e3@"G"><e1 label="16" preserve="REMOVED" kind="-"></e1></e3>"#,
+        r#"<e3 label="0" preserve="PRESENT" kind="G"></e3>"#,
+        r#"<e60@"G"><e61 label="0" preserve="PRESENT" kind="G"></e61></e60>"#,
+        r#"<e60 label="16" preserve="REMOVED" kind="-"></e60>"#,
+        r#"<e60 label="16" preserve="REMOVED" kind="-"><e61@"M">7</e61></e60>"#,
+    ] {
+        let text = sent(short);
+        assert_refused(store.as_mut_bytes(), 16, Call::InsertXml(P10, &text), 14);
+        assert_eq!(store.insert_xml(label(16), &path(&[(11, 0)]), &text), refused(Refusal::NotOwn), "{short}");
+    }
+}
+
+#[test]
+fn a_style_that_is_refused_changes_nothing() {
+    let mut store = with_style();
+    assert_eq!(store.insert_xml(label(16), &path(&[(10, 0)]), &sent_groups(20, 16, 1..31)), Ok(31));
+    for number in [33, 600, 1500] {
+        assert_refused(store.as_mut_bytes(), 16, Call::InsertXml(P10, &sent_groups(20, 16, 1..number)), 8);
+        assert_refused(store.as_mut_bytes(), 16, Call::InsertXml(P10, &sent_groups(21, 16, 1..number)), 9);
+        assert_refused(store.as_mut_bytes(), 16, Call::InsertXml(P10, &sent_groups(20, 16, (1..number).chain(1..2))), 13);
+    }
+    assert_refused(store.as_mut_bytes(), 16, Call::InsertXml(P10, &sent_groups(21, 16, 1..2)), 9);
+    assert_eq!(store.insert_xml(label(16), &path(&[(10, 0)]), &sent_groups(21, 16, 0..0)), Ok(1));
+    assert_eq!(store.delete(label(16), &path(&[(10, 0), (20, 16)])), Ok(31));
+    assert_eq!(xml(&store, 0, &[]), r#"<dossier subject="0"><e10 label="0" preserve="PRESENT" kind="G"></e10></dossier>"#);
+}
+
+#[test]
+fn a_view_as_xml_is_taken_in_again() {
+    let store = mixed();
+    let mut other = Store::empty();
+    for name in 1..=6 {
+        let viewed = xml(&store, 0, &[(name, 0)]);
+        let text = viewed.strip_prefix(r#"<dossier subject="0">"#).and_then(|rest| rest.strip_suffix("</dossier>"));
+        assert_eq!(other.insert_xml(label(0), &Path::root(), text.expect("the dossier tag")), Ok(1));
+        assert_eq!(xml(&other, 0, &[(name, 0)]), viewed);
     }
 }

@@ -4,10 +4,10 @@ use Rattle.call_cases.proofs.main.Statement.{statement}
 use Rattle.call_cases.proofs.main.Tie as tie
 
 abbrev Inv-loop : tie.InvT-loop
-Inv-loop store₀ output₀ turns₀ store output turns = Unit {0}
+Inv-loop store₀ output₀ second₀ turns₀ store output second turns = Unit {0}
 
 abbrev μ-loop : tie.MeasureT-loop
-μ-loop store₀ output₀ turns₀ store output turns = turns
+μ-loop store₀ output₀ second₀ turns₀ store output second turns = turns
 
 pub main-spec : {M : Type 1} → statement M
 main-spec =

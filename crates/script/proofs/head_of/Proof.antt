@@ -3,7 +3,7 @@ use borrow.Author.Needs.{needs}
 use Prim.Native.Nat.{_+_, _≤_}
 use lib.ListN.{length}
 use native.Mathlib.Omega.{arith}
-use Rattle.script.proofs.Goings.{begins-within}
+use Rattle.scan.proofs.Goings.{begins-within}
 use Rattle.script.proofs.Callings.{subject, head-none, head-untabbed, head-unparted, head-found}
 use Rattle.script.proofs.head_of.Statement.{statement}
 use Rattle.script.proofs.head_of.Tie as tie

@@ -11,7 +11,7 @@ bring-spec =
     (tie.spec
     (λ c. search needs)  -- enum-told
     (λ c. search needs)  -- enum-known-v
-    (λ c κs. c .before .before .before .before .before .before .pre .1)  -- put-measure-requires
+    (λ c κs. c .before .before .before .before .before .before .pre .1)  -- put-word-requires
     (λ c. search needs)  -- enum-known-v-2
     (λ c. search needs)  -- text-start-requires
     (λ c. search needs)  -- sub-text
@@ -26,8 +26,8 @@ bring-spec =
     -- returns-2
     (λ c.
     let start = c .before .before .before .before .before .before .before .before .before in
-    let put-measure = c .before .before .put-measure in
-    (measure-brought (start .args .line .now) (c .before .before .before .before .before .v .given .1) (put-measure .last .1 .0) (put-measure .ensures), start .pre .1))
+    let put-word = c .before .before .put-word in
+    (measure-brought (start .args .line .now) (c .before .before .before .before .before .v .given .1) (put-word .last .1 .0) (put-word .ensures), start .pre .1))
     (λ c. search needs)  -- same-length-2
     -- returns-3
     (λ c.

@@ -1,7 +1,7 @@
 -- `paths::step_at`: a name, a colon and a label.
 use native.Mathlib.Omega.{arith}
 use borrow.Author.Needs.{needs}
-use Rattle.script.proofs.Goings.{begins-within}
+use Rattle.scan.proofs.Goings.{begins-within}
 use Rattle.script.proofs.Trails.{step-nameless, step-alone, step-unlabelled, step-found}
 use Rattle.script.proofs.paths.step_at.Statement.{statement}
 use Rattle.script.proofs.paths.step_at.Tie as tie

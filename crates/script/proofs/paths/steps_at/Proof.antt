@@ -3,7 +3,7 @@ use Prim.Native.Nat.{_-_, suc}
 use lib.ListN.{length}
 use native.Mathlib.Omega.{arith}
 use borrow.Author.Needs.{needs}
-use Rattle.script.proofs.Goings.{begins-within}
+use Rattle.scan.proofs.Goings.{begins-within}
 use Rattle.script.proofs.Trails.{Trail, trail-start, trail-none, trail-room, trail-size, trail-end, trail-stop, trail-next, trail-less}
 use Rattle.script.proofs.paths.steps_at.Statement.{statement}
 use Rattle.script.proofs.paths.steps_at.Tie as tie

@@ -1,6 +1,6 @@
 -- `places::is_closed`: past the line's end, or its byte there.
 use borrow.Author.Needs.{needs}
-use Rattle.script.proofs.Goings.{closes-past, closes-here}
+use Rattle.script.proofs.Closings.{closes-past, closes-here}
 use Rattle.script.proofs.places.is_closed.Statement.{statement}
 use Rattle.script.proofs.places.is_closed.Tie as tie
 

@@ -1,7 +1,7 @@
 -- `values::group_at`: a minus sign, and the line's end.
 use borrow.Author.Needs.{needs}
 use native.Mathlib.Omega.{arith}
-use Rattle.script.proofs.Goings.{begins-within}
+use Rattle.scan.proofs.Goings.{begins-within}
 use Rattle.script.proofs.Showings.{group-other, group-more, group-found}
 use Rattle.script.proofs.values.group_at.Statement.{statement}
 use Rattle.script.proofs.values.group_at.Tie as tie

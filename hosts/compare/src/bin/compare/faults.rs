@@ -47,7 +47,7 @@ pub fn refused(number: u32) -> Answer {
 }
 
 /// The number the product would answer, without doing the call.
-fn foreseen(call: &Call, store: &[u8]) -> u32 {
+pub fn foreseen(call: &Call, store: &[u8]) -> u32 {
     let (mut store, mut output) = (store.to_vec(), vec![0; call.output]);
     product(call, &mut store, &mut output).number
 }

@@ -1,9 +1,10 @@
 //! Random calls: most go by what the store holds, some are invalid in one or more ways.
 use crate::side::{Call, Name};
 use crate::stores::{name, valid_path, valid_value};
+use crate::texts;
 use reference::STORE;
 use reference::label::{LABELS, dominates};
-use reference::partition::{Slot, partition};
+use reference::partition::{SLOTS, Slot, partition};
 use reference::path::{DEPTH, Path, Step};
 use reference::random::Random;
 use reference::value::Value;
@@ -14,7 +15,7 @@ const ROOMY: usize = 262_144;
 pub const XML_ROOMY: usize = 524_288;
 
 /// The calls, as often as each is made.
-const NAMES: [Name; 11] = [
+const NAMES: [Name; 14] = [
     Name::View,
     Name::View,
     Name::ViewXml,
@@ -26,6 +27,9 @@ const NAMES: [Name; 11] = [
     Name::Delete,
     Name::Grade,
     Name::Grade,
+    Name::InsertXml,
+    Name::InsertXml,
+    Name::InsertXml,
 ];
 
 /// A subject and a path for him.
@@ -39,6 +43,7 @@ pub fn call(random: &mut Random, store: &[u8], preferred: Option<u8>) -> Call {
         Name::Insert => insert_aim(random, store, preferred),
         Name::Update | Name::Delete => write_aim(random, store),
         Name::Grade => grade_aim(random, store),
+        Name::InsertXml => return intake(random, store, preferred),
     };
     let top = if name == Name::Grade { top(random, store, subject as u8, &path) } else { Vec::new() };
     let (kind, value) = valid_value(random);
@@ -46,19 +51,55 @@ pub fn call(random: &mut Random, store: &[u8], preferred: Option<u8>) -> Call {
         Name::ViewXml => random.pick(&[16_384, 65_536, 65_536, ROOMY, XML_ROOMY]),
         _ => random.pick(&[16_384, 16_384, 16_384, 65_536, ROOMY]),
     };
-    let mut call = Call { name, subject, path, kind, value, top, n: sizes(random), output };
+    let mut call = Call { name, subject, path, kind, value, top, n: sizes(random), text: Vec::new(), output };
     while random.percent(20) {
         spoil(random, &mut call);
     }
     call
 }
 
+/// A call with nothing but its name, its subject and its path.
+pub fn plain(name: Name, subject: u32, path: Vec<u8>) -> Call {
+    let (value, top, text) = (Vec::new(), Vec::new(), Vec::new());
+    Call { name, subject, path, kind: 0, value, top, n: 0, text, output: 0 }
+}
+
+/// A random XML intake for this store.
+fn intake(random: &mut Random, store: &[u8], preferred: Option<u8>) -> Call {
+    let (subject, path, top) = intake_aim(random, store, preferred);
+    let label = subject as u8;
+    let held = if store.len() == STORE { partition(store, label).count() } else { 0 };
+    let room = SLOTS - held;
+    let few = 1 + random.below(8);
+    let count = random.pick(&[1, few, few, few, few, room, room + 1, 32, 33, 40]).max(1);
+    let text = texts::text(random, top, label, count, path.len() / 3);
+    let mut call = Call { text, ..plain(Name::InsertXml, subject, path) };
+    while random.percent(12) {
+        match random.below(5) {
+            0 => call.subject = odd_subject(random),
+            1 => call.subject = random.below(32) as u32,
+            _ => spoil_path(random, &mut call.path),
+        }
+    }
+    call
+}
+
+/// The subject, the parent and the top element's name of an XML intake: mostly a new child of something held, now and
+/// then something held.
+fn intake_aim(random: &mut Random, store: &[u8], preferred: Option<u8>) -> (u32, Vec<u8>, u16) {
+    let (subject, path) =
+        if random.percent(85) { child_aim(random, store, preferred) } else { own_aim(&beginning(random, store, 1)) };
+    match path.split_last_chunk() {
+        Some((parent, [low, high, _])) => (subject, parent.to_vec(), u16::from_le_bytes([*low, *high]).max(1)),
+        None => (subject, path, 1),
+    }
+}
+
 /// A delete by this label, or by the highest, of a path that no store of these tests holds.
 pub fn idle_delete(random: &mut Random, label: u8) -> Call {
     let subject = random.pick(&[label, label, label, 31]);
     let path = Path::new(&[Step { name: 60_000, label: subject }; DEPTH]).bytes();
-    let none = Vec::new();
-    Call { name: Name::Delete, subject: subject.into(), path, kind: 0, value: none.clone(), top: none, n: 0, output: 0 }
+    plain(Name::Delete, subject.into(), path)
 }
 
 /// A label that dominates this one.

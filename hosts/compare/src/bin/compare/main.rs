@@ -2,9 +2,13 @@
 mod faults;
 mod generate;
 mod grade_faults;
+mod intake_faults;
 mod lent;
+mod robust;
+mod sent;
 mod side;
 mod stores;
+mod texts;
 
 use lent::Lent;
 use reference::STORE;
@@ -14,17 +18,21 @@ use side::{Answer, Call, Name, Side};
 use std::process::ExitCode;
 
 /// How many calls of each name were answered with each number.
-type Tally = [[u64; 13]; 6];
+type Tally = [[u64; 15]; 7];
 
 /// The numbers that each call can answer, in the order of `Name`.
-const NUMBERS: [(Name, &[usize]); 6] = [
+const NUMBERS: [(Name, &[usize]); 7] = [
     (Name::View, &[0, 1, 2, 3, 4, 7, 10]),
     (Name::Insert, &[0, 1, 2, 3, 4, 5, 6, 7, 8, 9]),
     (Name::Update, &[0, 1, 2, 3, 4, 5, 6, 7]),
     (Name::Delete, &[0, 1, 2, 3, 4, 6, 7]),
     (Name::ViewXml, &[0, 1, 2, 3, 4, 7, 10]),
     (Name::Grade, &[0, 1, 2, 3, 4, 7, 11, 12]),
+    (Name::InsertXml, &[0, 1, 2, 3, 4, 7, 8, 9, 13, 14]),
 ];
+
+/// How many bytes of a text are printed at most.
+const SHOWN: usize = 4000;
 
 /// What the command line asks for.
 struct Plan {
@@ -32,6 +40,7 @@ struct Plan {
     calls: u64,
     sweeps: u64,
     episode: Option<u64>,
+    robust: bool,
     faults: bool,
 }
 
@@ -48,6 +57,7 @@ struct Course {
     calls: u64,
     episodes: u64,
     corruptions: u64,
+    texts: u64,
     tally: Tally,
 }
 
@@ -59,7 +69,7 @@ struct Stores {
 
 fn main() -> ExitCode {
     let Some(plan) = read_arguments() else {
-        eprintln!("compare [--seed N] [--calls N] [--sweeps N] [--episode N] [--faults]");
+        eprintln!("compare [--seed N] [--calls N] [--sweeps N] [--episode N] [--robust] [--faults]");
         return ExitCode::from(2);
     };
     println!("seed {}", plan.seed);
@@ -70,7 +80,7 @@ fn main() -> ExitCode {
 /// Reads the command line. Without a seed the clock gives one.
 fn read_arguments() -> Option<Plan> {
     let clock = std::time::UNIX_EPOCH.elapsed().map_or(1, |since| since.as_nanos() as u64);
-    let mut plan = Plan { seed: clock, calls: 1_200_000, sweeps: 3, episode: None, faults: false };
+    let mut plan = Plan { seed: clock, calls: 1_200_000, sweeps: 3, episode: None, robust: false, faults: false };
     let mut arguments = std::env::args().skip(1);
     while let Some(argument) = arguments.next() {
         let mut number = || arguments.next()?.parse().ok();
@@ -79,6 +89,7 @@ fn read_arguments() -> Option<Plan> {
             "--calls" => plan.calls = number()?,
             "--sweeps" => plan.sweeps = number()?,
             "--episode" => plan.episode = Some(number()?),
+            "--robust" => plan.robust = true,
             "--faults" => plan.faults = true,
             _ => return None,
         }
@@ -91,36 +102,48 @@ fn compare(plan: &Plan) -> bool {
     let mut course = Course::default();
     let result = match plan.episode {
         Some(episode) => course.episode(plan.seed, episode, side::product),
+        None if plan.robust => robust::run(&mut course, plan.seed, side::product),
         None => course.sweep_and_run(plan),
     };
     if let Err(difference) = result {
         print_difference(plan.seed, &difference);
         return false;
     }
-    println!(
-        "{} calls in {} episodes, {} corruptions, no difference",
-        course.calls, course.episodes, course.corruptions
-    );
-    print_tally(&course.tally);
-    plan.episode.is_some() || plan.calls == 0 || is_complete(&course.tally)
+    let Course { calls, episodes, corruptions, texts, tally } = &course;
+    println!("{calls} calls in {episodes} episodes, {corruptions} corruptions, {texts} texts tried, no difference");
+    print_tally(tally);
+    plan.episode.is_some() || plan.robust || plan.calls == 0 || is_complete(&course.tally)
 }
 
 /// Compares the product with each fault: whether every fault is found.
 fn find_faults(plan: &Plan) -> bool {
     let mut all = true;
-    for (name, side) in faults::FAULTS {
-        let mut course = Course::default();
-        let found = course.run(plan.seed, plan.calls, side).is_err();
-        println!("{}: {name} ({} calls)", if found { "found" } else { "NOT FOUND" }, course.calls);
-        all &= found;
+    for (name, side) in faults::FAULTS.into_iter().chain(intake_faults::FAULTS) {
+        all &= is_found(name, |course| course.run(plan.seed, plan.calls, side));
+    }
+    for (name, side) in intake_faults::LONG_FAULTS {
+        all &= is_found(name, |course| robust::run_large(course, plan.seed, side));
     }
     all
 }
 
+/// Whether a comparison finds this fault.
+fn is_found(name: &str, compare: impl FnOnce(&mut Course) -> Result<(), Difference>) -> bool {
+    let mut course = Course::default();
+    let found = compare(&mut course).is_err();
+    println!("{}: {name} ({} calls)", if found { "found" } else { "NOT FOUND" }, course.calls);
+    found
+}
+
 /// Prints a difference and how to see it again.
 fn print_difference(seed: u64, difference: &Difference) {
-    println!("DIFFERENCE: {}", difference.what);
-    println!("{:?}", difference.call);
+    let Difference { call, what, .. } = difference;
+    println!("DIFFERENCE: {what}");
+    println!("{:?}", Call { text: Vec::new(), ..(**call).clone() });
+    if call.name == Name::InsertXml {
+        let shown = call.text.len().min(SHOWN);
+        println!("with this text of {} bytes: {}", call.text.len(), call.text[..shown].escape_ascii());
+    }
     println!("again: compare --seed {seed} {}", difference.again);
 }
 
@@ -147,12 +170,13 @@ fn is_complete(tally: &Tally) -> bool {
 }
 
 impl Course {
-    /// The sweeps and then the episodes.
+    /// The sweeps, then the episodes and the texts that are tried for robustness.
     fn sweep_and_run(&mut self, plan: &Plan) -> Result<(), Difference> {
         for sweep in 0..plan.sweeps {
             self.sweep(plan.seed, sweep)?;
         }
-        self.run(plan.seed, plan.calls, side::product)
+        self.run(plan.seed, plan.calls, side::product)?;
+        if plan.calls == 0 { Ok(()) } else { robust::run(self, plan.seed, side::product) }
     }
 
     /// Corrupts each byte of a store alone and deletes what is not there: the answer is 3 or another refusal.
@@ -267,7 +291,21 @@ impl Stores {
         if !(lent.guards_stand() && self.product.guards_stand()) {
             return Err("a byte outside the lent ones was written".to_string());
         }
+        if (call.name, answer.number) == (Name::InsertXml, 0) {
+            self.read_back(call, side)?;
+        }
         Ok(answer)
+    }
+
+    /// Whether the product's XML of a style that was taken in is the text, siblings in path order.
+    fn read_back(&mut self, call: &Call, side: Side) -> Result<(), String> {
+        let (view, xml) = sent::read_back(call).ok_or("a text was taken in that does not read")?;
+        let mut output = vec![0; view.output];
+        let Answer { number, count, .. } = side(&view, self.product.bytes_mut(), &mut output);
+        if (number, count) != (0, xml.len() as u64) {
+            return Err(format!("the view of what was taken in answers {number}, {count}"));
+        }
+        same("XML of what was taken in", &output, &xml)
     }
 }
 

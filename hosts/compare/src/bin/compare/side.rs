@@ -10,9 +10,10 @@ pub enum Name {
     Delete,
     ViewXml,
     Grade,
+    InsertXml,
 }
 
-/// A call with its inputs; the path of a grade is its base.
+/// A call with its inputs; the path of a grade is its base, that of an XML intake its parent.
 #[derive(Clone, Debug)]
 pub struct Call {
     pub name: Name,
@@ -22,6 +23,7 @@ pub struct Call {
     pub value: Vec<u8>,
     pub top: Vec<u8>,
     pub n: u32,
+    pub text: Vec<u8>,
     pub output: usize,
 }
 
@@ -39,13 +41,14 @@ pub type Side = fn(&Call, &mut [u8], &mut [u8]) -> Answer;
 
 /// The Rust program.
 pub fn reference(call: &Call, store: &mut [u8], output: &mut [u8]) -> Answer {
-    let Call { name, subject, path, kind, value, top, n, .. } = call;
+    let Call { name, subject, path, kind, value, top, n, text, .. } = call;
     let reference::Answer { number, count } = match name {
         Name::View => reference::view(store, *subject, path, output),
         Name::Insert => reference::insert(store, *subject, path, *kind, value),
         Name::Update => reference::update(store, *subject, path, *kind, value),
         Name::Delete => reference::delete(store, *subject, path),
         Name::ViewXml => reference::view_xml(store, *subject, path, output),
+        Name::InsertXml => reference::insert_xml(store, *subject, path, text),
         Name::Grade => {
             let reference::Grade { number, step, remainder } = reference::grade(store, *subject, path, top, *n);
             return Answer { number, step, remainder, ..Answer::default() };
@@ -56,13 +59,14 @@ pub fn reference(call: &Call, store: &mut [u8], output: &mut [u8]) -> Answer {
 
 /// The product, through the calls on bytes of the package in hosts/rust.
 pub fn product(call: &Call, store: &mut [u8], output: &mut [u8]) -> Answer {
-    let Call { name, subject, path, kind, value, top, n, .. } = call;
+    let Call { name, subject, path, kind, value, top, n, text, .. } = call;
     let dossier::Answer { number, count } = match name {
         Name::View => raw::view(store, *subject, path, output),
         Name::Insert => raw::insert(store, *subject, path, *kind, value),
         Name::Update => raw::update(store, *subject, path, *kind, value),
         Name::Delete => raw::delete(store, *subject, path),
         Name::ViewXml => raw::view_xml(store, *subject, path, output),
+        Name::InsertXml => raw::insert_xml(store, *subject, path, text),
         Name::Grade => {
             let dossier::GradeAnswer { number, step, remainder } = raw::grade(store, *subject, path, top, *n);
             return Answer { number, step, remainder, ..Answer::default() };

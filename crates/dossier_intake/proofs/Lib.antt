@@ -1,0 +1,3 @@
+-- Laws of a tree that comes.
+pub mod Placing
+pub mod Doing

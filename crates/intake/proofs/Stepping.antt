@@ -1,0 +1,62 @@
+-- A step written behind the first steps of a path.
+use mathlib.Core.Path.{_≡_, sym, ap, _∙_}
+use mathlib.Core.List.{List, [], _∷_, _++_}
+use Prim.Native.Nat.{ℕ, suc, _+_, _-_, _*_, _≤_}
+use native.Mathlib.Numerals.{add-one}
+use native.Mathlib.Omega.{arith}
+use lib.ListN.{length, take}
+use lib.Seq.{length-take-le}
+use lib.Dec.{T}
+use mir.Facts.{leb-yes}
+use Rattle.model.specs.Path.{Step, validStep, stepsOf}
+use Rattle.model.specs.Label.{isLabel}
+use Rattle.model.specs.Value.{Content}
+use Rattle.model.specs.Partition.{layout, readPartition}
+use Rattle.model.specs.Call.{added}
+use Rattle.model.proofs.Bools.{and-l, and-r}
+use Rattle.model.proofs.Dominance.{label-lt}
+use Rattle.partition.specs.Place.{placeOf, Room}
+use Rattle.path.specs.Steps.{putStep}
+use Rattle.path.proofs.Buffers.{length-put, steps-put}
+use Rattle.intake.specs.Putting.{above}
+use Rattle.intake.specs.Progress.{Below, Stepped}
+
+-- the numbers of a valid step
+step-fits : (a : Step) → T (validStep a) → (a .name ≤ 65535) × (a .label ≤ 255)
+unfolding validStep
+step-fits a t =
+    let label : T (isLabel (a .label)) = search (and-l, and-r) in
+    (leb-yes (search (and-l, and-r)), omega (arith, label-lt (a .label) label))
+
+module _ {x path : List ℕ} {n : ℕ} {a : Step} (b : Below x path n a) where
+  -- there is room for its bytes, and they hold it
+  pub below-fits : (3 * n + 3 ≤ length path) × ((a .name ≤ 65535) × (a .label ≤ 255))
+  below-fits = (omega (arith, b .size, b .shallow), step-fits a (b .step))
+
+  module _ {path' : List ℕ} (w : path' ≡ putStep path n (a .name) (a .label)) where
+    -- it is written
+    pub below-stepped : Stepped path n a path'
+    below-stepped =
+        record {
+          size = ap length w ∙ length-put path n (a .name) (a .label);
+          steps = ap (λ (k : ℕ). above k path') (sym (add-one n)) ∙ ap (λ (l : List ℕ). above (n + 1) l) w ∙ steps-put path n (a .name) (a .label) (below-fits .0);
+        }
+
+    -- the bytes up to it
+    lent-steps : stepsOf (take (3 * n + 3 - 0) path') ≡ above n path ++ (a ∷ [])
+    lent-steps = let k : 3 * n + 3 - 0 ≡ 3 * suc n = omega arith in ap (λ (m : ℕ). stepsOf (take m path')) k ∙ below-stepped .steps
+
+    -- are within the buffer
+    pub lent-short : length (take (3 * n + 3 - 0) path') ≤ 20
+    lent-short =
+        let s : length path' ≡ 18 = below-stepped .size ∙ b .size in
+        omega (arith, length-take-le (3 * n + 3 - 0) path' (omega (arith, b .shallow)), b .shallow)
+
+    -- there is room for the element
+    pub lent-room : Room x (placeOf (stepsOf (take (3 * n + 3 - 0) path')) (readPartition x)) (stepsOf (take (3 * n + 3 - 0) path'))
+    lent-room = rw lent-steps (b .room)
+
+    -- the partition with it
+    pub lent-put : {x' : List ℕ} (c : Content) → x' ≡ layout (added (stepsOf (take (3 * n + 3 - 0) path')) c (readPartition x))
+        → x' ≡ layout (added (above n path ++ (a ∷ [])) c (readPartition x))
+    lent-put c e = e ∙ ap (λ (p : List Step). layout (added p c (readPartition x))) lent-steps

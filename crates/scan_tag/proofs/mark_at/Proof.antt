@@ -1,0 +1,21 @@
+-- `mark_at`: a live element and its letter, a removed one, or neither.
+use borrow.Author.Needs.{needs}
+use Rattle.scan_tag.proofs.Marking.{present-within, mark-present, mark-removed, mark-none}
+use Rattle.scan_tag.proofs.mark_at.Statement.{statement}
+use Rattle.scan_tag.proofs.mark_at.Tie as tie
+
+pub mark-at-spec : {M : Type 1} → statement M
+mark-at-spec =
+    tie.close
+    (tie.spec
+    (λ c. search needs)  -- slice-aggregate-starts
+    (λ c. search needs)  -- starts-requires
+    (λ c. search needs)  -- add-letter-at
+    (λ c κs. search present-within)  -- letter-at-requires
+    (λ c. search mark-present)  -- returns
+    (λ c. search needs)  -- slice-aggregate-starts-2
+    (λ c. search needs)  -- starts-requires-2
+    (λ c. search needs)  -- add-t12
+    (λ c. search mark-removed)  -- returns-2
+    (λ c. search mark-none)  -- returns-3
+    )

@@ -1,0 +1,3 @@
+-- Laws of trees in a text.
+pub mod Heads
+pub mod Reading
