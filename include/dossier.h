@@ -35,7 +35,7 @@
  *     lock of its own.
  *   - The functions are declared as below, with nothing narrower.
  *
- * A view takes less than 6 KB of stack on x86-64, a view as XML and an XML intake less than 8 KB and the other calls, a grade
+ * A view and an XML intake take less than 6 KB of stack on x86-64, a view as XML less than 8 KB and the other calls, a grade
  * too, less than 1 KB, as measured on a full store. No call blocks.
  */
 #ifndef DOSSIER_H

@@ -11,7 +11,7 @@
 
 /* The stack of a measured call, what it is filled with, and what the header says that a view, one as XML, an XML intake and
  * another call take. */
-enum { STACK = 65536, FILL = 0xa5, VIEW_MOST = 6 * 1024, XML_MOST = 8 * 1024, INTAKE_MOST = 8 * 1024, OTHER_MOST = 1024 };
+enum { STACK = 65536, FILL = 0xa5, VIEW_MOST = 6 * 1024, XML_MOST = 8 * 1024, INTAKE_MOST = 6 * 1024, OTHER_MOST = 1024 };
 
 /* The bytes of the longest listing and of the longest XML known, the elements of each label, and the first name. */
 enum { LONGEST = 114861, LONGEST_XML = 414816, EACH = 32, LABELS = 32, STEP = 3, ABOVE = 5, FIRST_NAME = 10000 };

@@ -39,6 +39,7 @@ use Rattle.xml_read.specs.declared.Tree.{Tree}
 use Rattle.xml_read.specs.declared.TreeRead.{TreeRead}
 use Rattle.xml_read.specs.declared.TreeRead.the-variants as tree
 use Rattle.xml_read.specs.Trees.{size, Sent, SentBy}
+use Rattle.xml_read.specs.Records.{marks, Noted}
 use Rattle.intake.specs.Putting.{above, Comes, Took}
 use Rattle.dossier_intake.specs.Taking.{treeRows, TreeRow, TopPath, Ready, ActedXml}
 
@@ -84,9 +85,9 @@ module _ (s : ℕ) (b p t : List ℕ) where
         let f = sending-exists (length (stepsOf p)) t in
         record { sent = f .0; reads = f .1; acted = acted-refused (insertXml p (f .0)) s b [] (o .formed) (row-applies _ _ (failed e h)) (λ z. absurd (omega arith)) }
 
-    module _ (h : not v ≡ false) (n : ℕ) (k : n ≡ length p / 3) (x : TreeRead) (read : SentBy n s t x) where
-      read-by : SentBy (length (stepsOf p)) s t x
-      read-by = subst (λ (d : ℕ). SentBy d s t x) (k ∙ sym (length-steps p)) read
+    module _ (h : not v ≡ false) (n : ℕ) (k : n ≡ length p / 3) (hs ps : List ℕ) (x : TreeRead) (read : SentBy n s t hs ps x) where
+      read-by : SentBy (length (stepsOf p)) s t hs ps x
+      read-by = subst (λ (d : ℕ). SentBy d s t hs ps x) (k ∙ sym (length-steps p)) read
 
       -- the text sends none
       pub take-unread : x ≡ tree.None → ActedXml s p t b 13 0 b
@@ -94,15 +95,15 @@ module _ (s : ℕ) (b p t : List ℕ) where
       take-unread w =
           record {
             sent = empty;
-            reads = subst (SentBy (length (stepsOf p)) s t) w read-by;
+            reads = subst (SentBy (length (stepsOf p)) s t hs ps) w read-by;
             acted =
                 acted-refused (insertXml p empty) s b [] (o .formed)
                 (rows-behind (viewPathRows p) _ (held e h, tt) (row-applies _ _ tt)) (λ z. absurd (omega arith));
           }
 
       module _ {y : Tree} (tree-is : x ≡ tree.Is y) where
-        tree-sent : Sent (length (stepsOf p)) s t y
-        tree-sent = subst (SentBy (length (stepsOf p)) s t) tree-is read-by
+        tree-sent : Sent (length (stepsOf p)) s t hs ps y
+        tree-sent = subst (SentBy (length (stepsOf p)) s t hs ps) tree-is read-by
 
         -- an element that is another's, or removed
         pub take-foreign : not (y .own) ≡ true → ActedXml s p t b 14 0 b
@@ -119,7 +120,7 @@ module _ (s : ℕ) (b p t : List ℕ) where
             }
 
         -- the tree may be looked for
-        pub take-ready : not (y .own) ≡ false → Ready s p t b (y .name) (y .count)
+        pub take-ready : not (y .own) ≡ false → Ready s p t b (y .name) (y .count) hs ps
         take-ready w =
             let f : Forest = tree-sent .trees in
             let own : T (ownLive s f) = told-yes (tree-sent .own) (not-false (y .own) w) in
@@ -134,6 +135,7 @@ module _ (s : ℕ) (b p t : List ℕ) where
               own = own;
               step = tree-sent .step ∙ ap (λ (n : ℕ). record { name = y .name; label = n } ∷ []) l;
               counts = tree-sent .counts;
+              noted = tree-sent .noted;
             }
 
 -- ---- a tree that is looked for
@@ -146,7 +148,7 @@ top-form d (element x c i b) a t e =
     let q : x ≡ a = cc in
     (u .shallow, subst (λ (k : Step). T (validStep k)) q (u .step))
 
-module _ {s : ℕ} {p t b : List ℕ} {name n : ℕ} (r : Ready s p t b name n) where
+module _ {s : ℕ} {p t b : List ℕ} {name n : ℕ} {hs ps : List ℕ} (r : Ready s p t b name n hs ps) where
   -- the step of its own element
   abbrev top : Step
   top = record { name = name; label = s }
@@ -197,13 +199,12 @@ module _ {s : ℕ} {p t b : List ℕ} {name n : ℕ} (r : Ready s p t b name n) 
       taken = rows-taken s (openModel b) p (r .sent) all-pass
 
       -- its elements may come to the partition x, which holds the set
-      pub take-comes : {x : List ℕ} → T (wellFormed s x) → readPartition x ≡ ownSet s (openModel b) → Comes x t buffer (length p / 3)
+      pub take-comes : {x : List ℕ} → T (wellFormed s x) → readPartition x ≡ ownSet s (openModel b) → Comes x t buffer (length p / 3) s hs ps n
       take-comes {x} g q =
           let u : above (length p / 3) buffer ≡ stepsOf p = w .above in
           let c : length (elementsOf (stepsOf p) (r .sent)) ≡ length (entries (stepsOf p) (r .sent)) = elements-count s (stepsOf p) (r .sent) (r .own) in
           let room : length (ownSet s (openModel b)) + length (elementsOf (stepsOf p) (r .sent)) ≤ 32 = omega (arith, taken .free) in
           record {
-            label = s;
             sent = r .sent;
             formed = g;
             size = w .size;
@@ -211,6 +212,8 @@ module _ {s : ℕ} {p t b : List ℕ} {name n : ℕ} (r : Ready s p t b name n) 
             own = r .own;
             coming = rw (u, q) (taken-coming (open-valid b) taken);
             room = rw (u, q) room;
+            noted = subst (λ (d : ℕ). Noted hs ps (marks d 0 (r .sent))) (length-steps p) (r .noted);
+            count = rw u (r .counts ∙ sym (size-entries (stepsOf p) (r .sent)) ∙ sym c);
           }
 
       -- they have come

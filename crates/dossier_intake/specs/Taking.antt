@@ -14,6 +14,7 @@ use Rattle.model.specs.Call.{insertXml, counted}
 use Rattle.store.specs.Opened.{Opened}
 use Rattle.promise.specs.Did.{Acted}
 use Rattle.xml_read.specs.Trees.{size}
+use Rattle.xml_read.specs.Records.{marks, Noted}
 
 -- a buffer for six steps holds the path p given as bytes, and the step a behind it
 pub record TopPath (p : List ℕ) (a : Step) (buffer : List ℕ) : Type 0 where
@@ -30,8 +31,8 @@ abbrev pub TreeRow : (s : ℕ) (store parent path : List ℕ) (n number : ℕ) �
 TreeRow s b p q n k =
     (a : Step) → a .label ≡ s → stepsOf q ≡ stepsOf p ++ (a ∷ []) → k ≡ rowCode (treeRows s (openModel b) (stepsOf p) a n)
 
--- rows 1 to 4, 13 and 14 do not apply: the tree of n elements that the text sends, and the name of its own
-pub record Ready (s : ℕ) (parent text store : List ℕ) (name n : ℕ) : Type 0 where
+-- rows 1 to 4, 13 and 14 do not apply: the tree of n elements that the text sends, the name of its own, and what is kept of the elements
+pub record Ready (s : ℕ) (parent text store : List ℕ) (name n : ℕ) (heads places : List ℕ) : Type 0 where
   pub opened : Opened store s
   pub path : T (viewPath parent)
   pub sent : Forest
@@ -39,6 +40,7 @@ pub record Ready (s : ℕ) (parent text store : List ℕ) (name n : ℕ) : Type 
   pub own : T (ownLive s sent)
   pub step : siblings sent ≡ record { name = name; label = s } ∷ []
   pub counts : n ≡ size sent
+  pub noted : Noted heads places (marks (length (stepsOf parent)) 0 sent)
 
 -- for a label on a store of the right size: the tree that the text sends, or none, and what was done with it
 pub record ActedXml (label : ℕ) (parent text store : List ℕ) (number count : ℕ) (store' : List ℕ) : Type 0 where

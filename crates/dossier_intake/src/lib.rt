@@ -35,7 +35,10 @@ fn act(store: &mut [u8], label: u8, parent: &[u8], text: &[u8]) -> Answer
             count: 0,
         };
     }
-    let TreeRead::Is(tree) = xml_read::read(text, parent.len() / 3, label) else {
+    let mut heads = [0u64; 32];
+    let mut places = [0usize; 32];
+    let TreeRead::Is(tree) = xml_read::read(text, parent.len() / 3, label, &mut heads, &mut places)
+    else {
         return Answer {
             number: 13,
             count: 0,
@@ -47,12 +50,30 @@ fn act(store: &mut [u8], label: u8, parent: &[u8], text: &[u8]) -> Answer
             count: 0,
         };
     }
-    take(store, label, parent, text, tree.name, tree.count)
+    take(
+        store,
+        label,
+        parent,
+        text,
+        tree.name,
+        tree.count,
+        &heads,
+        &places,
+    )
 }
 
-// The tree of a text that has been read through: rows 7 to 9, then its elements come.
-fn take(store: &mut [u8], label: u8, parent: &[u8], text: &[u8], name: u64, count: usize) -> Answer
-    requires { ⌜ Ready label (now parent) (now text) (now store) name count ⌝ }
+// The tree of a text that has been read through, and what was kept of its elements: rows 7 to 9, then they come.
+fn take(
+    store: &mut [u8],
+    label: u8,
+    parent: &[u8],
+    text: &[u8],
+    name: u64,
+    count: usize,
+    heads: &[u64],
+    places: &[usize],
+) -> Answer
+    requires { ⌜ Ready label (now parent) (now text) (now store) name count (now heads) (now places) ⌝ }
     ensures { λ r. ⌜ ActedXml label (now (parent .entry)) (now (text .entry)) (now (store .entry)) (r .number) (r .count) (now (store .exit)) ⌝ }
 {
     let mut path = [0u8; 18];
@@ -64,6 +85,16 @@ fn take(store: &mut [u8], label: u8, parent: &[u8], text: &[u8], name: u64, coun
     }
     let start = 1284 * octets::index(label);
     let end = start + 1284;
-    intake::put_all(&mut store[start..end], text, &mut path, parent.len() / 3);
+    let above = parent.len() / 3;
+    intake::put_all(
+        &mut store[start..end],
+        text,
+        &mut path,
+        above,
+        label,
+        heads,
+        places,
+        count,
+    );
     Answer { number: 0, count }
 }

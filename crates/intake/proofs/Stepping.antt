@@ -1,25 +1,58 @@
--- A step written behind the first steps of a path.
-use mathlib.Core.Path.{_≡_, sym, ap, _∙_}
+-- The first steps of a path, and a step written behind them.
+use mathlib.Core.Path.{_≡_, refl, sym, ap, _∙_}
 use mathlib.Core.List.{List, [], _∷_, _++_}
-use Prim.Native.Nat.{ℕ, suc, _+_, _-_, _*_, _≤_}
+use Prim.Native.Nat.{ℕ, zero, suc, _+_, _-_, _*_, _/_, _≤_}
 use native.Mathlib.Numerals.{add-one}
 use native.Mathlib.Omega.{arith}
 use lib.ListN.{length, take}
 use lib.Seq.{length-take-le}
 use lib.Dec.{T}
 use mir.Facts.{leb-yes}
-use Rattle.model.specs.Path.{Step, validStep, stepsOf}
+use Rattle.model.specs.Path.{Step, validStep, isPrefix, stepsOf}
 use Rattle.model.specs.Label.{isLabel}
 use Rattle.model.specs.Value.{Content}
 use Rattle.model.specs.Partition.{layout, readPartition}
 use Rattle.model.specs.Call.{added}
 use Rattle.model.proofs.Bools.{and-l, and-r}
 use Rattle.model.proofs.Dominance.{label-lt}
+use Rattle.model.proofs.Prefixes.{prefix-take, prefix-whole, prefix-of-longer}
 use Rattle.partition.specs.Place.{placeOf, Room}
 use Rattle.path.specs.Steps.{putStep}
+use Rattle.path.proofs.Steps.{length-steps}
 use Rattle.path.proofs.Buffers.{length-put, steps-put}
 use Rattle.intake.specs.Putting.{above}
 use Rattle.intake.specs.Progress.{Below, Stepped}
+
+-- ---- the first steps
+
+-- the first steps of a buffer are those of its first bytes
+above-take : (n : ℕ) (b : List ℕ) → above n b ≡ take n (stepsOf b)
+above-take zero b = refl
+above-take (suc n) [] = let e : 3 * suc n ≡ suc (suc (suc (3 * n))) = omega arith in rw e
+above-take (suc n) (x ∷ []) = let e : 3 * suc n ≡ suc (suc (suc (3 * n))) = omega arith in rw e
+above-take (suc n) (x ∷ y ∷ []) = let e : 3 * suc n ≡ suc (suc (suc (3 * n))) = omega arith in rw e
+above-take (suc n) (x ∷ y ∷ z ∷ b) =
+    let e : 3 * suc n ≡ suc (suc (suc (3 * n))) = omega arith in
+    rw e (ap (λ (p : List Step). record { name = x + 256 * y; label = z } ∷ p) (above-take n b))
+
+-- so many, if the buffer has them
+pub length-above : (n : ℕ) (b : List ℕ) → 3 * n ≤ length b → length (above n b) ≡ n
+length-above n b h =
+    let k : length (take (3 * n) b) ≡ 3 * n = length-take-le (3 * n) b h in
+    let m : length (above n b) ≡ length (take (3 * n) b) / 3 = length-steps (take (3 * n) b) in
+    omega arith
+
+-- the whole buffer begins with them
+pub above-front : (n : ℕ) (b : List ℕ) → T (isPrefix (above n b) (stepsOf b))
+above-front n b = rw (above-take n b) (prefix-take n (stepsOf b))
+
+-- the steps with which it begins are its first
+pub front-above : (r : List Step) (b : List ℕ) → 3 * length r ≤ length b → T (isPrefix r (stepsOf b)) → above (length r) b ≡ r
+front-above r b h t =
+    let k : length (above (length r) b) ≡ length r = length-above (length r) b h in
+    sym (prefix-whole r (above (length r) b) (prefix-of-longer r (above (length r) b) (stepsOf b) t (above-front (length r) b) (omega arith)) (omega arith))
+
+-- ---- a step written
 
 -- the numbers of a valid step
 step-fits : (a : Step) → T (validStep a) → (a .name ≤ 65535) × (a .label ≤ 255)

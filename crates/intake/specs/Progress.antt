@@ -1,28 +1,27 @@
 -- How far the elements of a text are put into a partition.
 use mathlib.Core.Path.{_≡_}
-use mathlib.Core.Bool.{Bool}
-use mathlib.Core.List.{List, [], _∷_, _++_}
-use Prim.Native.Nat.{ℕ, zero, suc, _+_, _≤_, _<_}
-use lib.ListN.{length, drop}
+use mathlib.Core.Option.{some}
+use mathlib.Core.List.{List, [], _∷_, _++_, map}
+use Prim.Native.Nat.{ℕ, suc, _+_, _≤_, _<_}
+use lib.ListN.{length, take, drop}
 use lib.Dec.{T}
-use Rattle.model.specs.Path.{Step, validStep, parent}
+use Rattle.model.specs.Path.{Step, validStep, isPrefix, stepsOf}
+use Rattle.model.specs.Value.{Content}
 use Rattle.model.specs.Element.{Element}
 use Rattle.model.specs.Partition.{readPartition, wellFormed}
-use Rattle.model.specs.Text.{ascii}
-use Rattle.model.specs.Tree.{Forest}
-use Rattle.model.specs.Xml.{xml, endTag}
-use Rattle.model.specs.Intake.{inForm, ownLive, elementsOf, withAll}
+use Rattle.model.specs.Intake.{withAll}
 use Rattle.model.proofs.Taking.{Coming}
 use Rattle.partition.specs.Place.{placeOf, Room}
-use Rattle.scan.specs.Text.{isFront}
-use Rattle.scan_tag.specs.declared.Tag.{Tag}
+use Rattle.scan_value.specs.Values.{Valued}
+use Rattle.xml_read.specs.Records.{Mark, packed}
+use Rattle.intake.specs.declared.Head.{Head}
 use Rattle.intake.specs.Putting.{above}
 
 -- ---- one element
 
--- the step of a start tag
-abbrev pub stepOf : Tag → Step
-stepOf t = record { name = t .name; label = t .label }
+-- the step of an element
+abbrev pub stepOf : Head → Step
+stepOf h = record { name = h .name; label = h .label }
 
 -- an element may be put into the partition x, at the step a below the first n of a path
 pub record Below (x path : List ℕ) (n : ℕ) (a : Step) : Type 0 where
@@ -36,81 +35,77 @@ pub record Stepped (path : List ℕ) (n : ℕ) (a : Step) (path' : List ℕ) : T
   pub size : length path' ≡ length path
   pub steps : above (suc n) path' ≡ above n path ++ (a ∷ [])
 
--- ---- what is left
+-- ---- the elements that are left
 
--- an open element, whose end tag is still to come: its step, and the trees behind it
-pub record Open : Type 0 where
+-- an element of a text: the steps above it, its step and content, and where its value begins
+pub record Item : Type 0 where
+  pub over : List Step
   pub step : Step
-  pub behind : Forest
+  pub content : Content
+  pub place : ℕ
 
--- the text from the end tag of the innermost of open elements on
-abbrev pub closing : List Open → List ℕ
-closing [] = []
-closing (o ∷ os) = endTag (o .step .name) ++ (xml (o .behind) ++ closing os)
+-- its path
+abbrev pub pathOf : Item → List Step
+pathOf i = i .over ++ (i .step ∷ [])
 
--- the elements of the trees behind open elements, the innermost of which stands at path r
-abbrev pub later : List Step → List Open → List Element
-later r [] = []
-later r (o ∷ os) = elementsOf (parent r) (o .behind) ++ later (parent r) os
+-- what it brings
+abbrev pub elementOf : Item → Element
+elementOf i = record { path = pathOf i; content = i .content }
 
--- those of trees inside the innermost, and of all behind
-abbrev pub left : List Step → Forest → List Open → List Element
-left r f os = elementsOf r f ++ later r os
+-- what is kept of it
+abbrev pub markOf : Item → Mark
+markOf i = record { steps = length (i .over); name = i .step .name; shown = i .content .kind; place = i .place }
 
--- trees below a path of n steps are in form, and their elements are live and bear label s
-pub record Fit (s n : ℕ) (f : Forest) : Type 0 where
-  pub form : T (inForm n f)
-  pub own : T (ownLive s f)
+-- it is in form and bears label s, and its value stands at its place of the text l
+pub record Fit (s : ℕ) (l : List ℕ) (i : Item) : Type 0 where
+  pub shallow : length (i .over) < 6
+  pub step : T (validStep (i .step))
+  pub own : i .step .label ≡ s
+  pub within : i .place ≤ length l
+  pub rest : List ℕ
+  pub value : Valued (drop (i .place) l) (some (i .content)) rest
 
--- so are the trees behind open elements, the innermost of which stands at a path of n steps; their steps are valid
-abbrev pub Fits : ℕ → ℕ → List Open → Type 0
-Fits s n [] = Unit {0}
-Fits s zero (o ∷ os) = ⊥
-Fits s (suc n) (o ∷ os) = T (validStep (o .step)) × Fit s n (o .behind) × Fits s n os
+-- so are elements one after another; the steps above each are the first of the path of the one before it, those above the first of path p
+abbrev pub Ready : ℕ → List ℕ → List Step → List Item → Type 0
+Ready s l p [] = Unit {0}
+Ready s l p (i ∷ is) = T (isPrefix (i .over) p) × Fit s l i × Ready s l (pathOf i) is
 
--- at place at of the text l, inside the first n steps of the path: with the elements that are left the partition x comes to hold goal
-pub record Going (goal : List Element) (x l path : List ℕ) (at n : ℕ) : Type 0 where
-  pub label : ℕ
-  pub trees : Forest
-  pub opened : List Open
+-- with the elements that are left the partition x of label s comes to hold goal
+pub record Going (goal : List Element) (s : ℕ) (x l path : List ℕ) (is : List Item) : Type 0 where
   pub size : length path ≡ 18
-  pub within : at ≤ length l
-  pub shallow : n ≤ 6
-  pub text : drop at l ≡ xml trees ++ closing opened
-  pub fit : Fit label n trees
-  pub fits : Fits label n opened
-  pub formed : T (wellFormed label x)
-  pub coming : Coming label (readPartition x) (left (above n path) trees opened)
-  pub room : length (readPartition x) + length (left (above n path) trees opened) ≤ 32
-  pub reaches : withAll (left (above n path) trees opened) (readPartition x) ≡ goal
+  pub ready : Ready s l (stepsOf path) is
+  pub formed : T (wellFormed s x)
+  pub coming : Coming s (readPartition x) (map elementOf is)
+  pub room : length (readPartition x) + length is ≤ 32
+  pub reaches : withAll (map elementOf is) (readPartition x) ≡ goal
 
--- ---- tags passed
+-- they are those whose marks stand from place k of two buffers on, up to place n
+pub record Left (goal : List Element) (s : ℕ) (x l path heads places : List ℕ) (k n : ℕ) : Type 0 where
+  pub items : List Item
+  pub going : Going goal s x l path items
+  pub heads-are : take (length items) (drop k heads) ≡ map (λ i. packed (markOf i)) items
+  pub places-are : take (length items) (drop k places) ≡ map (λ i. i .place) items
+  pub count : k + length items ≡ n
 
--- an end tag stands at a place of the text l, and r follows it
-pub record Closed (l : List ℕ) (at : ℕ) (r : List ℕ) : Type 0 where
-  pub name : ℕ
-  pub small : name ≤ 65535
-  pub same : drop at l ≡ endTag name ++ r
+-- ---- the next of them
 
--- something follows it
-abbrev pub Closes : List ℕ → ℕ → Type 0
-Closes l at = (r : List ℕ) × Closed l at r
+-- a head and a place are an element's
+pub record Tells (h : Head) (place : ℕ) (i : Item) : Type 0 where
+  pub steps : h .steps ≡ length (i .over)
+  pub step : stepOf h ≡ i .step
+  pub kind : h .kind ≡ i .content .kind
+  pub value : place ≡ i .place
 
--- the place p is behind it
-abbrev pub Past : List ℕ → ℕ → ℕ → Type 0
-Past l at p = (r : List ℕ) → Closed l at r → (at < p) × (p ≤ length l) × (drop p l ≡ r)
-
--- the next tag is an end tag
-abbrev pub endsNext : List ℕ → ℕ → Bool
-endsNext l at = isFront (ascii "</") (drop at l)
-
--- a place on the way, whatever the partition comes to hold
-pub record Way (x l path : List ℕ) (at n : ℕ) : Type 0 where
+-- they are the next element's, whatever the partition comes to hold
+pub record Way (x l path : List ℕ) (h : Head) (place : ℕ) : Type 0 where
   pub goal : List Element
-  pub going : Going goal x l path at n
-  pub inside : at < length l
+  pub label : ℕ
+  pub item : Item
+  pub others : List Item
+  pub going : Going goal label x l path (item ∷ others)
+  pub tells : Tells h place item
 
--- it comes to hold the same at a later place
-pub record Went (x l path : List ℕ) (at n : ℕ) (x' path' : List ℕ) (at' n' : ℕ) : Type 0 where
-  pub less : at < at'
-  pub on : (goal : List Element) → Going goal x l path at n → Going goal x' l path' at' n'
+-- it comes to hold the same with the others
+abbrev pub Went : (x l path : List ℕ) (h : Head) (place : ℕ) (x' path' : List ℕ) → Type 0
+Went x l path h place x' path' =
+    (goal : List Element) (s : ℕ) (i : Item) (is : List Item) → Going goal s x l path (i ∷ is) → Tells h place i → Going goal s x' l path' is

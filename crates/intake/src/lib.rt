@@ -1,12 +1,8 @@
-// The elements of a text put into a partition, in the text's order.
-use scan::Number;
-use scan_tag::Tag;
-use scan_tag::TagRead;
+// The elements of a text put into a partition, in the text's order, by what was kept of each while it was read.
 use scan_value::ValueRead;
 ghost use mathlib.Core.Path.{_≡_};
-ghost use mathlib.Core.Bool.{false};
 ghost use mathlib.Core.List.{[], _∷_, _++_};
-ghost use Prim.Native.Nat.{_≤_};
+ghost use Prim.Native.Nat.{_/_, _%_, _≤_, _<_};
 ghost use lib.ListN.{length};
 ghost use Rattle.model.specs.Lists.{between};
 ghost use Rattle.model.specs.Path.{stepsOf};
@@ -14,13 +10,26 @@ ghost use Rattle.model.specs.Call.{added};
 ghost use Rattle.model.specs.Partition.{layout, readPartition};
 ghost use Rattle.partition.specs.Place.{placeOf, Room};
 ghost use Rattle.intake.specs.Putting.{above, Comes, Took};
-ghost use Rattle.intake.specs.Progress.{stepOf, Below, Stepped, Closes, Past, endsNext, Way, Went};
+ghost use Rattle.intake.specs.Progress.{stepOf, Below, Stepped, Way, Went};
 
-// A place in the text, how many steps the path there has, and the slot of the element that was put in last.
-struct Spot {
-    at: usize,
+// An element's step, how many stand above it, and its kind.
+struct Head {
     steps: usize,
-    slot: usize,
+    name: u64,
+    label: u64,
+    kind: u8,
+}
+
+// What one number says of an element with a label.
+fn unpack(head: u64, label: u8) -> Head
+    ensures { λ r. ⌜ (r .steps ≡ head % 8) × (r .name ≡ head / 64) × (r .label ≡ label) × (r .kind ≡ head / 8 % 8) ⌝ }
+{
+    Head {
+        steps: (head % 8) as usize,
+        name: head / 64,
+        label: label as u64,
+        kind: (head / 8 % 8) as u8,
+    }
 }
 
 // Puts an element into a partition, which has room and no element at the path; its value is the first bytes of the buffer. Its place is
@@ -36,91 +45,86 @@ fn put(part: &mut [u8], near: usize, path: &[u8], kind: u8, value: &[u8], size: 
     at
 }
 
-// Puts an element in, one step below the first n of the path: its step is written into the path. The result is its slot.
+// Puts an element in: its step is written into the path, behind those above it. The result is its slot.
 fn put_below(
     part: &mut [u8],
     near: usize,
     path: &mut [u8],
-    n: usize,
-    tag: Tag,
+    head: Head,
     value: &[u8; 16],
     size: usize,
 ) -> usize
-    requires { ⌜ Below (now part) (now path) n (stepOf tag) × (size ≤ 16) ⌝ }
-    ensures { λ _. ⌜ Stepped (now (path .entry)) n (stepOf tag) (now (path .exit)) ⌝ }
-    ensures { λ _. ⌜ now (part .exit) ≡ layout (added (above n (now (path .entry)) ++ (stepOf tag ∷ [])) (record { kind = tag .shown; value = between 0 size (now (value .entry)) }) (readPartition (now (part .entry)))) ⌝ }
+    requires { ⌜ Below (now part) (now path) (head .steps) (stepOf head) × (size ≤ 16) ⌝ }
+    ensures { λ _. ⌜ Stepped (now (path .entry)) (head .steps) (stepOf head) (now (path .exit)) ⌝ }
+    ensures { λ _. ⌜ now (part .exit) ≡ layout (added (above (head .steps) (now (path .entry)) ++ (stepOf head ∷ [])) (record { kind = head .kind; value = between 0 size (now (value .entry)) }) (readPartition (now (part .entry)))) ⌝ }
 {
-    path::put_step(path, n, tag.name, tag.label);
-    let end = 3 * n + 3;
-    put(part, near, &path[0..end], tag.shown, value, size)
+    path::put_step(path, head.steps, head.name, head.label);
+    let end = 3 * head.steps + 3;
+    put(part, near, &path[0..end], head.kind, value, size)
 }
 
-// Puts in the element whose start tag stands at a place, one step below the first n of the path: behind its value, inside it.
-fn enter(part: &mut [u8], text: &[u8], path: &mut [u8], at: usize, n: usize, near: usize) -> Spot
-    requires { ⌜ Way (now part) (now text) (now path) at n × (endsNext (now text) at ≡ false) ⌝ }
-    ensures { λ r. ⌜ Went (now (part .entry)) (now (text .entry)) (now (path .entry)) at n (now (part .exit)) (now (path .exit)) (r .at) (r .steps) ⌝ }
+// Puts in an element whose value begins at a place of the text. The result is its slot.
+fn put_read(
+    part: &mut [u8],
+    text: &[u8],
+    path: &mut [u8],
+    near: usize,
+    head: Head,
+    place: usize,
+) -> usize
+    requires { ⌜ Way (now part) (now text) (now path) head place ⌝ }
+    ensures { λ _. ⌜ Went (now (part .entry)) (now (text .entry)) (now (path .entry)) head place (now (part .exit)) (now (path .exit)) ⌝ }
 {
-    let TagRead::Is(tag) = scan_tag::tag_at(text, at) else {
-        return Spot {
-            at,
-            steps: n,
-            slot: near,
-        };
-    };
     let mut value = [0u8; 16];
-    let ValueRead::Is(size, next) = scan_value::value_at(text, tag.next, tag.shown, &mut value)
-    else {
-        return Spot {
-            at,
-            steps: n,
-            slot: near,
-        };
+    let ValueRead::Is(size, _) = scan_value::value_at(text, place, head.kind, &mut value) else {
+        return near;
     };
-    let slot = put_below(part, near, path, n, tag, &value, size);
-    Spot {
-        at: next,
-        steps: n + 1,
-        slot,
-    }
+    put_below(part, near, path, head, &value, size)
 }
 
-// The place behind the end tag at a place.
-fn past_end(text: &[u8], at: usize) -> usize
-    requires { ⌜ Closes (now text) at ⌝ }
-    ensures { λ r. ⌜ Past (now (text .entry)) at r ⌝ }
+// The slot behind which an element is looked for first: that of the element put in last, if it comes behind the one before it under one
+// parent, else its parent's. Any slot would do.
+fn near_of(names: &[u64; 9], slots: &[usize; 9], steps: usize, name: u64, last: usize) -> usize
+    requires { ⌜ steps < 8 ⌝ }
 {
-    let Number::Is(_, end) = scan::number_at(text, at + 3, 65535) else {
-        return at;
-    };
-    end + 1
-}
-
-// The next tag: an element is put in, or its end passed.
-fn put_next(part: &mut [u8], text: &[u8], path: &mut [u8], at: usize, n: usize, near: usize) -> Spot
-    requires { ⌜ Way (now part) (now text) (now path) at n ⌝ }
-    ensures { λ r. ⌜ Went (now (part .entry)) (now (text .entry)) (now (path .entry)) at n (now (part .exit)) (now (path .exit)) (r .at) (r .steps) ⌝ }
-{
-    if scan::starts(text, at, b"</") {
-        return Spot {
-            at: past_end(text, at),
-            steps: n - 1,
-            slot: near,
-        };
+    if names[steps] < name {
+        return last;
     }
-    enter(part, text, path, at, n, near)
+    slots[steps]
 }
 
-// Puts the elements of the text below the first d steps of the path, whose later bytes are overwritten.
-pub fn put_all(part: &mut [u8], text: &[u8], path: &mut [u8; 18], d: usize)
-    requires { ⌜ Comes (now part) (now text) (now path) d ⌝ }
+// Keeps the name of an element that was put in for the next one beside it, and its slot for those inside it.
+fn keep(names: &mut [u64; 9], slots: &mut [usize; 9], steps: usize, name: u64, slot: usize)
+    requires { ⌜ steps < 8 ⌝ }
+{
+    names[steps] = name;
+    names[steps + 1] = 0;
+    slots[steps + 1] = slot;
+}
+
+// Puts the n elements of the text, which bear the label, below the first d steps of the path, whose later bytes are overwritten.
+pub fn put_all(
+    part: &mut [u8],
+    text: &[u8],
+    path: &mut [u8; 18],
+    d: usize,
+    label: u8,
+    heads: &[u64],
+    places: &[usize],
+    n: usize,
+)
+    requires { ⌜ Comes (now part) (now text) (now path) d label (now heads) (now places) n ⌝ }
     ensures { λ _. ⌜ Took (now (part .entry)) (now (text .entry)) (now (path .entry)) d (now (part .exit)) ⌝ }
 {
-    let mut c = Spot {
-        at: 0,
-        steps: d,
-        slot: 0,
-    };
-    while c.at < text.len() {
-        c = put_next(part, text, path, c.at, c.steps, c.slot);
+    let mut names = [0u64; 9];
+    let mut slots = [0usize; 9];
+    let mut slot: usize = 0;
+    let mut k: usize = 0;
+    while k < n {
+        let head = unpack(heads[k], label);
+        let near = near_of(&names, &slots, head.steps, head.name, slot);
+        slot = put_read(part, text, path, near, head, places[k]);
+        keep(&mut names, &mut slots, head.steps, head.name, slot);
+        k += 1;
     }
 }

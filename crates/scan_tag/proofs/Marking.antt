@@ -5,11 +5,12 @@ use mathlib.Core.List.{List, [], _∷_, _++_}
 use Prim.Native.Nat.{ℕ, zero, suc, _+_, _≤_, _<_}
 use native.Mathlib.Omega.{arith}
 use lib.ListN.{length, drop, getD}
+use lib.Seq.{drop-drop}
 use Rattle.model.specs.Text.{ascii}
 use Rattle.model.specs.View.{letter}
-use Rattle.scan.specs.Text.{isFront}
-use Rattle.scan.proofs.Goings.{drop-here, drop-within}
-use Rattle.scan.proofs.Fronts.{front-true, front-false, front-yes, front-no}
+use Rattle.scan.specs.Text.{begins, isFront}
+use Rattle.scan.proofs.Goings.{neither, drop-here, drop-within}
+use Rattle.scan.proofs.Fronts.{front-yes, front-no}
 use Rattle.scan_tag.specs.Tags.{letterText, markText, LetterAt, MarkAt}
 use Rattle.scan_tag.specs.declared.MarkRead.{MarkRead}
 use Rattle.scan_tag.specs.declared.MarkRead.the-variants.{Is, None}
@@ -108,34 +109,47 @@ live-or-removed k l r q f g = go k q f
     go (suc (suc zero)) q f = f (omega arith) (live 2 (omega arith) q)
     go (suc (suc (suc k))) q f = g q
 
-module _ (l : List ℕ) (at : ℕ) {t : Bool} (e : t ≡ isFront present (drop at l)) where
-  module _ (h : t ≡ true) where
-    -- the letter's place is within the text
-    pub present-within : at + 27 ≤ length l
-    present-within = omega (arith, front-true 34 (ascii " preserve=\"PRESENT\" kind=\"") l at e h .1)
+module _ (l : List ℕ) (at : ℕ) {v : Bool} (w : v ≡ begins 82 (drop (at + 12) l)) where
+  -- byte 12 of what stands there
+  twelfth : (x : List ℕ) → drop at l ≡ x → drop (at + 12) l ≡ drop 12 x
+  twelfth x q = sym (drop-drop 12 at l) ∙ ap (drop 12) q
 
-    there : drop at l ≡ present ++ drop (at + 27) l
-    there = front-true 34 (ascii " preserve=\"PRESENT\" kind=\"") l at e h .0
-
-    -- a live element: what is read of its letter
-    pub mark-present : (x : MarkRead) → LetterAt l (at + 27) x → MarkAt l at x
-    mark-present (Is k next) s = (
-      omega (arith, s .0),
-      s .1,
-      omega (arith, s .2),
-      there ∙ ap (λ (r : List ℕ). present ++ r) (s .3) ∙ ap (λ (x : List ℕ). x ++ drop next l) (sym (live-text k (s .2))),
-    )
-    mark-present None s = λ k r j q.
-        live-or-removed k (drop at l) r q (λ i p. s k r i (ap (drop 27) (sym there ∙ p))) (λ p. removed-not-present r (drop (at + 27) l) (sym p ∙ there))
-
-  module _ (h : t ≡ false) {u : Bool} (f : u ≡ isFront removed (drop at l)) where
+  module _ {u : Bool} (f : u ≡ isFront removed (drop at l)) where
     -- a removed element
-    pub mark-removed : u ≡ true → MarkAt l at (Is 3 (at + 30))
+    pub mark-removed : not u ≡ false → MarkAt l at (Is 3 (at + 30))
     mark-removed k =
-        let p = front-true 34 (ascii " preserve=\"REMOVED\" kind=\"-\">") l at f k in
+        let p = front-yes 34 (ascii " preserve=\"REMOVED\" kind=\"-\">") l at f k in
         (omega arith, p .1, omega arith, p .0)
 
-    -- neither
-    pub mark-none : u ≡ false → MarkAt l at None
+    -- neither: byte 12 is not a live element's
+    pub mark-unremoved : v ≡ true → not u ≡ true → MarkAt l at None
+    mark-unremoved h g k r j q =
+        live-or-removed k (drop at l) r q
+        (λ i p. neither (w ∙ ap (begins 82) (twelfth (present ++ (letterText k ++ r)) p)) h)
+        (λ p. front-no removed l at f g r p)
+
+  module _ (h : v ≡ false) {t : Bool} (e : t ≡ isFront present (drop at l)) where
+    -- neither: byte 12 is not a removed element's
+    pub mark-none : not t ≡ true → MarkAt l at None
     mark-none g k r j q =
-        live-or-removed k (drop at l) r q (λ i p. front-false present l at e h (letterText k ++ r) p) (λ p. front-false removed l at f g r p)
+        live-or-removed k (drop at l) r q (λ i p. front-no present l at e g (letterText k ++ r) p)
+        (λ p. neither h (w ∙ ap (begins 82) (twelfth (removed ++ r) p)))
+
+    module _ (g : not t ≡ false) where
+      -- the letter's place is within the text
+      pub present-within : at + 27 ≤ length l
+      present-within = omega (arith, front-yes 34 (ascii " preserve=\"PRESENT\" kind=\"") l at e g .1)
+
+      there : drop at l ≡ present ++ drop (at + 27) l
+      there = front-yes 34 (ascii " preserve=\"PRESENT\" kind=\"") l at e g .0
+
+      -- a live element: what is read of its letter
+      pub mark-present : (x : MarkRead) → LetterAt l (at + 27) x → MarkAt l at x
+      mark-present (Is k next) s = (
+        omega (arith, s .0),
+        s .1,
+        omega (arith, s .2),
+        there ∙ ap (λ (r : List ℕ). present ++ r) (s .3) ∙ ap (λ (x : List ℕ). x ++ drop next l) (sym (live-text k (s .2))),
+      )
+      mark-present None s = λ k r j q.
+          live-or-removed k (drop at l) r q (λ i p. s k r i (ap (drop 27) (sym there ∙ p))) (λ p. removed-not-present r (drop (at + 27) l) (sym p ∙ there))

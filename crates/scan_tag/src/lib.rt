@@ -46,18 +46,22 @@ fn letter_at(text: &[u8], at: usize) -> MarkRead
     }
 }
 
-// What stands in a start tag behind the digits of its label.
+// What stands in a start tag behind the digits of its label. Byte 12 tells a removed element from a live one, so that one piece alone is
+// compared.
 fn mark_at(text: &[u8], at: usize) -> MarkRead
     requires { ⌜ at ≤ length (now text) ⌝ }
     ensures { λ r. ⌜ MarkAt (now (text .entry)) at r ⌝ }
 {
-    if scan::starts(text, at, b"\" preserve=\"PRESENT\" kind=\"") {
-        return letter_at(text, at + 27);
-    }
-    if scan::starts(text, at, b"\" preserve=\"REMOVED\" kind=\"-\">") {
+    if scan::holds(text, at + 12, b'R') {
+        if !scan::starts(text, at, b"\" preserve=\"REMOVED\" kind=\"-\">") {
+            return MarkRead::None;
+        }
         return MarkRead::Is(3, at + 30);
     }
-    MarkRead::None
+    if !scan::starts(text, at, b"\" preserve=\"PRESENT\" kind=\"") {
+        return MarkRead::None;
+    }
+    letter_at(text, at + 27)
 }
 
 // The number behind the given bytes.

@@ -20,6 +20,7 @@ use Rattle.scan.specs.Shown.{contentIn, shownAs}
 use Rattle.scan_tag.specs.Tags.{TagAt}
 use Rattle.scan_value.specs.Values.{ValueAt}
 use Rattle.xml_read.specs.Trees.{one, ownShown, Headed, HeadAt}
+use Rattle.xml_read.proofs.Marking.{behind-part}
 use Rattle.scan_tag.specs.declared.Tag.{Tag}
 use Rattle.scan_tag.specs.declared.TagRead.{TagRead}
 use Rattle.scan_tag.specs.declared.TagRead.the-variants as tag
@@ -37,17 +38,23 @@ same-tag a (suc zero) v w = refl
 same-tag a (suc (suc zero)) v w = refl
 same-tag a (suc (suc (suc k))) v w = refl
 
--- a content is that of its number, with its value
+-- the content of a kind that has such a value, by its number
+allowed-in : (k : ℕ) (v : List ℕ) → T (allowed k v) → (k ≤ 3) × (some (record { kind = k; value = v }) ≡ contentIn k v)
+unfolding allowed
+allowed-in zero v t = (omega arith, refl)
+allowed-in (suc zero) v t = (omega arith, refl)
+allowed-in (suc (suc zero)) v t = (omega arith, refl)
+allowed-in (suc (suc (suc k))) v t = absurd t
+
+-- so a live element's
+pub live-in : (c : Content) → T (mayShow (some c)) → (c .kind ≤ 3) × (some c ≡ contentIn (c .kind) (c .value))
+unfolding bringable
+live-in c t = allowed-in (c .kind) (c .value) t
+
+-- and any content is that of its number, with its value
 content-in : (c : Option Content) → T (mayShow c) → (shownAs c ≤ 3) × ((v : List ℕ) × (c ≡ contentIn (shownAs c) v))
-unfolding bringable allowed
 content-in none t = (omega arith, ([], refl))
-content-in (some c) t = go (c .kind) (c .value) t refl
-  where
-    go : (k : ℕ) (v : List ℕ) → T (allowed k v) → c ≡ record { kind = k; value = v } → (c .kind ≤ 3) × ((v : List ℕ) × (some c ≡ contentIn (c .kind) v))
-    go zero v t e = let n : c .kind ≡ 0 = ap (λ (d : Content). d .kind) e in (omega arith, (v, ap some e ∙ ap (λ (k : ℕ). contentIn k v) (sym n)))
-    go (suc zero) v t e = let n : c .kind ≡ 1 = ap (λ (d : Content). d .kind) e in (omega arith, (v, ap some e ∙ ap (λ (k : ℕ). contentIn k v) (sym n)))
-    go (suc (suc zero)) v t e = let n : c .kind ≡ 2 = ap (λ (d : Content). d .kind) e in (omega arith, (v, ap some e ∙ ap (λ (k : ℕ). contentIn k v) (sym n)))
-    go (suc (suc (suc k))) v t e = absurd t
+content-in (some c) t = let k = live-in c t in (k .0, (c .value, k .1))
 
 -- so its tag is that of its number
 pub shown-tag : (a : Step) (c : Option Content) → T (mayShow c) → startTag a c ≡ startTag a (contentIn (shownAs c) [])
@@ -152,12 +159,13 @@ module _ (l : List ℕ) (at : ℕ) {x : TagRead} (tagged : TagAt l at x) where
           (record { shows = s .shows; ends = s .ends; same = u .2 })
 
       -- a tag and a value
-      pub head-found : {n next : ℕ} → y ≡ value.Is n next → HeadAt l at (head.Is (record { name = t .name; label = t .label; shown = t .shown; next = next }))
+      pub head-found : {n next : ℕ} → y ≡ value.Is n next → HeadAt l at (head.Is (record { name = t .name; label = t .label; shown = t .shown; value = t .next; next = next }))
       head-found {n} {next} e =
           let k : ℕ = t .shown in
           let z : Step = record { name = t .name; label = t .label } in
           let c : Option Content = contentIn k (take n b) in
-          let v : ValueAt l (t .next) k b (value.Is n next) = subst (ValueAt l (t .next) k b) e valued in (
+          let v : ValueAt l (t .next) k b (value.Is n next) = subst (ValueAt l (t .next) k b) e valued in
+          let tagged : drop at l ≡ startTag z c ++ drop (t .next) l = tag-read .2 .same ∙ ap (λ (w : List ℕ). w ++ drop (t .next) l) (same-tag z k [] (take n b)) in (
             omega (arith, tag-read .0, v .0),
             v .1,
             (
@@ -167,11 +175,9 @@ module _ (l : List ℕ) (at : ℕ) {x : TagRead} (tagged : TagAt l at x) where
                 valid = tag-read .2 .valid;
                 shows = v .3 .shows;
                 ends = v .3 .ends;
-                same =
-                    tag-read .2 .same
-                    ∙ ap (λ (w : List ℕ). w ++ drop (t .next) l) (same-tag z k [] (take n b))
-                    ∙ ap (λ (w : List ℕ). startTag z c ++ w) (v .3 .same);
+                same = tagged ∙ ap (λ (w : List ℕ). startTag z c ++ w) (v .3 .same);
               },
+              behind-part l at (t .next) (startTag z c) (omega (arith, tag-read .0, tag-read .1)) (tag-read .1) tagged,
             ),
           )
 

@@ -1,3 +1,4 @@
 -- Laws of trees in a text.
+pub mod Marking
 pub mod Heads
 pub mod Reading

@@ -5,7 +5,7 @@ use mathlib.Core.Option.{Option, none, some}
 use mathlib.Core.List.{List, [], _∷_, _++_, append-assoc, append-nil}
 use Prim.Native.Nat.{ℕ, _+_, _≤_, _<_}
 use native.Mathlib.Omega.{arith}
-use lib.ListN.{length, drop, length-drop, drop-of-length-le}
+use lib.ListN.{length, drop, length-append, length-drop, drop-of-length-le}
 use lib.Dec.{T, eqb, leb}
 use mir.Facts.{eqb-yes, yes-eqb, leb-yes, leb-no}
 use borrow.Author.Tests.{not-false, not-true}
@@ -22,6 +22,7 @@ use Rattle.scan.specs.Text.{begins, isFront}
 use Rattle.scan.proofs.Goings.{neither}
 use Rattle.scan_tag.specs.Tags.{EndAt}
 use Rattle.siblings.specs.Differing.{Known, Added}
+use Rattle.xml_read.specs.Records.{Mark, marks, Marked}
 use Rattle.xml_read.specs.Trees.{size, one, Headed, HeadAt, ownShown, ReadTree, TreeAt, ReadPart, PartAt, SentBy}
 use Rattle.scan_tag.specs.declared.EndRead.{EndRead}
 use Rattle.scan_tag.specs.declared.EndRead.the-variants as end
@@ -34,6 +35,7 @@ use Rattle.xml_read.specs.declared.TreeRead.the-variants as tree
 use Rattle.xml_read.specs.declared.Part.{Part}
 use Rattle.xml_read.specs.declared.PartRead.{PartRead}
 use Rattle.xml_read.specs.declared.PartRead.the-variants as part
+use Rattle.xml_read.proofs.Marking.{behind-part, length-marks, marks-one, marks-onto, marked-none, marked-all}
 use Rattle.xml_read.proofs.Heads.{opens-begins, headed-unique, live-shown}
 
 -- the step of a head, and of a tree
@@ -87,13 +89,13 @@ module _ (l : List ℕ) (at d : ℕ) (a : Step) (c : Option Content) (i : Forest
 
 module _ (l : List ℕ) (at d s : ℕ) where
   -- too deep
-  pub tree-deep : 6 ≤ d → TreeAt l at d s tree.None
-  tree-deep h a c i r t e = let k : d < 6 = form-parts d a c i empty t .shallow in omega arith
+  pub tree-deep : (w : List Mark → Type 0) → 6 ≤ d → TreeAt l at d s w tree.None
+  tree-deep w h a c i r t e = let k : d < 6 = form-parts d a c i empty t .shallow in omega arith
 
   module _ {x : HeadRead} (headed : HeadAt l at x) where
     -- no tag or no value
-    pub tree-headless : x ≡ head.None → TreeAt l at d s tree.None
-    tree-headless q a c i r t e = subst (HeadAt l at) q headed a c (xml i ++ (endTag (a .name) ++ r)) (element-head l at d a c i r (form-parts d a c i empty t) e)
+    pub tree-headless : (w : List Mark → Type 0) → x ≡ head.None → TreeAt l at d s w tree.None
+    tree-headless w q a c i r t e = subst (HeadAt l at) q headed a c (xml i ++ (endTag (a .name) ++ r)) (element-head l at d a c i r (form-parts d a c i empty t) e)
 
     module _ {h : Head} (head-is : x ≡ head.Is h) where
       head-read : HeadAt l at (head.Is h)
@@ -113,16 +115,25 @@ module _ (l : List ℕ) (at d s : ℕ) where
           → (headStep h ≡ a) × (head-read .2 .0 ≡ c) × (drop (h .next) l ≡ xml i ++ (endTag (a .name) ++ r))
       behind-head a c i r t e = headed-unique (head-read .2 .2) (element-head l at d a c i r (form-parts d a c i empty t) e)
 
-      module _ {y : PartRead} (filled : PartAt l (h .next) (d + 1) s y) where
+      -- where its value ends
+      value-ends : h .next ≡ h .value + length (contentXml (head-read .2 .0))
+      value-ends =
+          let a : Step = headStep h in
+          let c : Option Content = head-read .2 .0 in
+          let n = behind-part l at (h .next) (startTag a c ++ contentXml c) (omega (arith, head-read .0, head-read .1)) (head-read .1)
+          (head-read .2 .2 .same ∙ sym (append-assoc (startTag a c) (contentXml c) (drop (h .next) l))) in
+          omega (arith, n, length-append (startTag a c) (contentXml c), head-read .2 .3)
+
+      module _ (v : List Mark → Type 0) {y : PartRead} (filled : PartAt l (h .next) (d + 1) s v y) where
         -- what is inside is not in form
-        pub tree-unfilled : y ≡ part.None → TreeAt l at d s tree.None
-        tree-unfilled q a c i r t e =
+        pub tree-unfilled : (w : List Mark → Type 0) → y ≡ part.None → TreeAt l at d s w tree.None
+        tree-unfilled w q a c i r t e =
             let x : ElementForm d a c i empty = form-parts d a c i empty t in
-            subst (PartAt l (h .next) (d + 1) s) q filled i (a .name) r (subst (λ (n : ℕ). T (inForm n i)) (omega arith) (x .within)) (x .differs) (behind-head a c i r t e .2)
+            subst (PartAt l (h .next) (d + 1) s v) q filled i (a .name) r (subst (λ (n : ℕ). T (inForm n i)) (omega arith) (x .within)) (x .differs) (behind-head a c i r t e .2)
 
         module _ {p : Part} (part-is : y ≡ part.Is p) where
-          part-read : ReadPart l (h .next) (d + 1) s p
-          part-read = subst (PartAt l (h .next) (d + 1) s) part-is filled
+          part-read : ReadPart l (h .next) (d + 1) s v p
+          part-read = subst (PartAt l (h .next) (d + 1) s v) part-is filled
 
           -- the place behind it is within the text
           pub part-ends : p .next ≤ length l
@@ -130,8 +141,8 @@ module _ (l : List ℕ) (at d s : ℕ) where
 
           module _ {z : EndRead} (ended : EndAt l (p .next) (h .name) z) where
             -- no end tag of the name
-            pub tree-unended : z ≡ end.None → TreeAt l at d s tree.None
-            tree-unended q a c i r t e =
+            pub tree-unended : (w : List Mark → Type 0) → z ≡ end.None → TreeAt l at d s w tree.None
+            tree-unended w q a c i r t e =
                 let x : ElementForm d a c i empty = form-parts d a c i empty t in
                 let b = behind-head a c i r t e in
                 let u = contents-unique (d + 1) (part-read .trees) i (drop (p .next) l) (endTag (a .name) ++ r) (part-read .form)
@@ -149,9 +160,11 @@ module _ (l : List ℕ) (at d s : ℕ) where
               tree-fewer = omega (arith, head-read .0, part-read .fewer, end-read .0)
 
               -- a tree
-              pub tree-found : {n : ℕ} {t : Bool} → n ≡ p .count + 1 → t ≡ ownShown (h .shown) (h .label) s (p .own)
-                  → d < 6 → TreeAt l at d s (tree.Is (record { name = h .name; label = h .label; next = next; count = n; own = t }))
-              tree-found {n} {t} e f k =
+              pub tree-found : (w : List Mark → Type 0) {n : ℕ} {t : Bool} → n ≡ p .count + 1 → t ≡ ownShown (h .shown) (h .label) s (p .own)
+                  → d < 6
+                  → ((ms : List Mark) → v ms → w (record { steps = d; name = h .name; shown = h .shown; place = h .value } ∷ ms))
+                  → TreeAt l at d s w (tree.Is (record { name = h .name; label = h .label; next = next; count = n; own = t }))
+              tree-found w {n} {t} e f k m =
                   let a : Step = headStep h in
                   let c : Option Content = head-read .2 .0 in
                   let i : Forest = part-read .trees in
@@ -179,12 +192,13 @@ module _ (l : List ℕ) (at d s : ℕ) where
                         f
                         ∙ ap₂ (λ (k : ℕ) (u : Bool). ownShown k (h .label) s u) (sym (head-read .2 .1)) (part-read .own)
                         ∙ live-shown s a c i (head-read .2 .2 .shows);
+                    noted = subst w (marks-one d at a c i (head-read .2 .1) (head-read .2 .3) value-ends) (m (marks (d + 1) (h .next) i) (part-read .noted));
                   }
 
 -- ---- the trees inside an element
 
--- what was read of them: the trees, and what is known of their steps
-pub record Reading (l : List ℕ) (at d s : ℕ) (ks : List ℕ) (n : ℕ) (p : Part) : Type 0 where
+-- what was read of them: the trees, what is known of their steps, and what w says of their marks
+pub record Reading (l : List ℕ) (at d s : ℕ) (w : List Mark → Type 0) (ks : List ℕ) (n : ℕ) (p : Part) : Type 0 where
   pub trees : Forest
   pub form : T (inForm d trees)
   pub known : Known l at ks n (siblings trees)
@@ -194,10 +208,12 @@ pub record Reading (l : List ℕ) (at d s : ℕ) (ks : List ℕ) (n : ℕ) (p : 
   pub fewer : at + p .count ≤ p .next
   pub few : at + n ≤ p .next
   pub own : p .own ≡ ownLive s trees
+  pub noted : w (marks d at trees)
 
 -- nothing
-pub reading-start : (l : List ℕ) (at d s : ℕ) (ks : List ℕ) → at ≤ length l → Reading l at d s ks 0 (record { next = at; count = 0; own = true })
-reading-start l at d s ks h =
+pub reading-start : (l : List ℕ) (at d s : ℕ) (hs ps : List ℕ) (k : ℕ) (ks : List ℕ) → at ≤ length l
+    → Reading l at d s (Marked hs ps k hs ps) ks 0 (record { next = at; count = 0; own = true })
+reading-start l at d s hs ps k ks h =
     record {
       trees = empty;
       form = tt;
@@ -208,6 +224,7 @@ reading-start l at d s ks h =
       fewer = omega arith;
       few = omega arith;
       own = refl;
+      noted = marked-none hs ps k;
     }
 
 -- trees f are those that were read and at least one more, and so is what is left of their text, before q
@@ -231,9 +248,9 @@ one-form d a c i b t =
     parts-form d a c i empty
     (record { shallow = x .shallow; step = x .step; shows = x .shows; differs = x .differs; within = x .within; next = tt })
 
-module _ {l : List ℕ} {at d s : ℕ} {ks : List ℕ} {n : ℕ} {p : Part} (inv : Reading l at d s ks n p) {u : Bool} (e : u ≡ isFront (ascii "</") (drop (p .next) l)) where
+module _ {l : List ℕ} {at d s : ℕ} {w : List Mark → Type 0} {ks : List ℕ} {n : ℕ} {p : Part} (inv : Reading l at d s w ks n p) {u : Bool} (e : u ≡ isFront (ascii "</") (drop (p .next) l)) where
   -- the trees end here
-  pub reading-end : not u ≡ false → ReadPart l at d s p
+  pub reading-end : not u ≡ false → ReadPart l at d s w p
   reading-end h =
       record {
         trees = inv .trees;
@@ -245,6 +262,7 @@ module _ {l : List ℕ} {at d s : ℕ} {ks : List ℕ} {n : ℕ} {p : Part} (inv
         counts = inv .counts;
         fewer = inv .fewer;
         own = inv .own;
+        noted = inv .noted;
       }
     where
       known-differ : (m : ℕ) (r : List ℕ) → drop (p .next) l ≡ endTag m ++ r → T (differ (siblings (inv .trees)))
@@ -279,16 +297,16 @@ module _ {l : List ℕ} {at d s : ℕ} {ks : List ℕ} {n : ℕ} {p : Part} (inv
         let w : T (inForm d (inv .trees) && inForm d k) = subst T (ap (inForm d) (g .whole) ∙ form-onto d (inv .trees) k) t in
         one-form d (g .step) (g .content) (g .inside) (g .others) (and-r (inForm d (inv .trees)) (inForm d k) w)
 
-    module _ {x : TreeRead} (read : TreeAt l (p .next) d s x) where
+    module _ (v : List Mark → Type 0) {x : TreeRead} (read : TreeAt l (p .next) d s v x) where
       -- no tree in form stands there
-      pub inside-none : x ≡ tree.None → PartAt l at d s part.None
-      inside-none k f m r t v q =
+      pub inside-none : x ≡ tree.None → PartAt l at d s w part.None
+      inside-none k f m r t o q =
           let g = goes-on f m r t q in
-          subst (TreeAt l (p .next) d s) k read (g .step) (g .content) (g .inside) (xml (g .others) ++ (endTag m ++ r)) (more-form t g) (g .same)
+          subst (TreeAt l (p .next) d s v) k read (g .step) (g .content) (g .inside) (xml (g .others) ++ (endTag m ++ r)) (more-form t g) (g .same)
 
       module _ {t : Tree} (tree-is : x ≡ tree.Is t) where
-        tree-read : ReadTree l (p .next) d s t
-        tree-read = subst (TreeAt l (p .next) d s) tree-is read
+        tree-read : ReadTree l (p .next) d s v t
+        tree-read = subst (TreeAt l (p .next) d s v) tree-is read
 
         -- its step is valid
         pub tree-step : T (validStep (treeStep t))
@@ -302,27 +320,28 @@ module _ {l : List ℕ} {at d s : ℕ} {ks : List ℕ} {n : ℕ} {p : Part} (inv
 
         module _ (ks' : List ℕ) (b : Bool) (added : Added l at ks n (treeStep t) ks' b) where
           -- its step is one of those before it
-          pub inside-same : not b ≡ true → PartAt l at d s part.None
-          inside-same k f m r w v q =
-              let g = goes-on f m r w q in
+          pub inside-same : not b ≡ true → PartAt l at d s w part.None
+          inside-same k f m r y o q =
+              let g = goes-on f m r y q in
               let z = tree-unique d (treeStep t) (g .step) (tree-read .content) (g .content) (tree-read .inside) (g .inside) (drop (t .next) l)
-              (xml (g .others) ++ (endTag m ++ r)) (tree-read .form) (more-form w g) (sym (tree-read .same) ∙ g .same) in
-              let y : treeStep t ∷ [] ≡ g .step ∷ [] = ap siblings (z .0) in
+              (xml (g .others) ++ (endTag m ++ r)) (tree-read .form) (more-form y g) (sym (tree-read .same) ∙ g .same) in
+              let same : treeStep t ∷ [] ≡ g .step ∷ [] = ap siblings (z .0) in
               let a : g .step ≡ treeStep t = cc in
               subst (Added l at ks n (treeStep t) ks') (not-true b k) added (siblings (inv .trees)) (siblings (g .others)) f (inv .known)
-              (record { depth = d; name = m; behind = r; form = w; same = q })
+              (record { depth = d; name = m; behind = r; form = y; same = q })
               (ap siblings (g .whole) ∙ siblings-onto (inv .trees) (element (g .step) (g .content) (g .inside) (g .others))
-              ∙ ap (λ (o : Step). siblings (inv .trees) ++ (o ∷ siblings (g .others))) a)
-              v
+              ∙ ap (λ (i : Step). siblings (inv .trees) ++ (i ∷ siblings (g .others))) a)
+              o
 
           -- what was read with it
           pub reading-next : not b ≡ false → {q : Part} → (q .next ≡ t .next) × (q .count ≡ p .count + t .count) × (q .own ≡ (p .own && t .own))
-              → Reading l at d s ks' (n + 1) q
-          reading-next k {q} w =
+              → (w' : List Mark → Type 0) → ((ms ns : List Mark) → length ms ≡ p .count → w ms → v ns → w' (ms ++ ns)) → Reading l at d s w' ks' (n + 1) q
+          reading-next k {q} sum w' m =
               let o : Forest = one (treeStep t) (tree-read .content) (tree-read .inside) in
               let f : Forest = inv .trees in
               let c : t .count ≡ size o = tree-read .counts in
               let c' : p .count ≡ size f = inv .counts in
+              let before : p .next ≡ at + length (xml f) = behind-part l at (p .next) (xml f) (omega (arith, inv .few, inv .within)) (inv .within) (inv .same) in
               let j : size (onto f o) ≡ size f + size o = size-onto f o in
               record {
                 trees = onto f o;
@@ -331,13 +350,16 @@ module _ {l : List ℕ} {at d s : ℕ} {ks : List ℕ} {n : ℕ} {p : Part} (inv
                     subst (λ (y : List Step). Known l at ks' (n + 1) y) (sym (siblings-onto f o))
                     (subst (Added l at ks n (treeStep t) ks') (not-false b k) added (siblings f) (inv .known));
                 same =
-                    inv .same ∙ ap (λ (y : List ℕ). xml f ++ y) (tree-read .same ∙ ap (λ (y : ℕ). xml o ++ drop y l) (sym (w .0)))
+                    inv .same ∙ ap (λ (y : List ℕ). xml f ++ y) (tree-read .same ∙ ap (λ (y : ℕ). xml o ++ drop y l) (sym (sum .0)))
                     ∙ sym (append-assoc (xml f) (xml o) (drop (q .next) l)) ∙ ap (λ (y : List ℕ). y ++ drop (q .next) l) (sym (xml-onto f o));
-                within = omega (arith, tree-ends .1, w .0);
-                counts = omega (arith, w .1);
-                fewer = omega (arith, tree-ends .2, w .0, w .1);
-                few = omega (arith, inv .few, tree-ends .0, w .0);
-                own = w .2 ∙ ap₂ (λ (y z : Bool). y && z) (inv .own) (tree-read .own) ∙ sym (own-onto s f o);
+                within = omega (arith, tree-ends .1, sum .0);
+                counts = omega (arith, sum .1);
+                fewer = omega (arith, tree-ends .2, sum .0, sum .1);
+                few = omega (arith, inv .few, tree-ends .0, sum .0);
+                own = sum .2 ∙ ap₂ (λ (y z : Bool). y && z) (inv .own) (tree-read .own) ∙ sym (own-onto s f o);
+                noted =
+                    subst w' (ap (λ (y : ℕ). marks d at f ++ marks d y o) before ∙ sym (marks-onto d at f o))
+                    (m (marks d at f) (marks d (p .next) o) (length-marks d at f ∙ sym c') (inv .noted) (tree-read .noted));
               }
 
 -- ---- a whole text
@@ -359,20 +381,20 @@ alone-text {d} {l} {f} s w = (
   s .same ∙ ap xml (w .3) ∙ sym (append-nil (xml (one (w .0) (w .1) (w .2)))),
 )
 
-module _ (d s : ℕ) (l : List ℕ) {x : TreeRead} (read : TreeAt l 0 d s x) where
+module _ (d s : ℕ) (l hs ps hs' ps' : List ℕ) {x : TreeRead} (read : TreeAt l 0 d s (Marked hs ps 0 hs' ps') x) where
   -- no tree begins it
-  pub sent-none : x ≡ tree.None → SentBy d s l tree.None
+  pub sent-none : x ≡ tree.None → SentBy d s l hs' ps' tree.None
   sent-none k f o =
       let w : Alone f = alone f (o .one) in
       let v = alone-text o w in
-      subst (TreeAt l 0 d s) k read (w .0) (w .1) (w .2) [] (v .0) (v .1)
+      subst (TreeAt l 0 d s (Marked hs ps 0 hs' ps')) k read (w .0) (w .1) (w .2) [] (v .0) (v .1)
 
   module _ {t : Tree} (tree-is : x ≡ tree.Is t) where
-    whole-read : ReadTree l 0 d s t
-    whole-read = subst (TreeAt l 0 d s) tree-is read
+    whole-read : ReadTree l 0 d s (Marked hs ps 0 hs' ps') t
+    whole-read = subst (TreeAt l 0 d s (Marked hs ps 0 hs' ps')) tree-is read
 
     -- something stands behind it
-    pub sent-more : t .next < length l → SentBy d s l tree.None
+    pub sent-more : t .next < length l → SentBy d s l hs' ps' tree.None
     sent-more h f o =
         let w : Alone f = alone f (o .one) in
         let v = alone-text o w in
@@ -383,7 +405,7 @@ module _ (d s : ℕ) (l : List ℕ) {x : TreeRead} (read : TreeAt l 0 d s x) whe
         omega arith
 
     -- it is the text
-    pub sent-found : length l ≤ t .next → SentBy d s l (tree.Is t)
+    pub sent-found : length l ≤ t .next → SentBy d s l hs' ps' (tree.Is t)
     sent-found h =
         record {
           trees = one (treeStep t) (whole-read .content) (whole-read .inside);
@@ -399,4 +421,5 @@ module _ (d s : ℕ) (l : List ℕ) {x : TreeRead} (read : TreeAt l 0 d s x) whe
           step = refl;
           counts = whole-read .counts;
           own = whole-read .own;
+          noted = marked-all (whole-read .noted);
         }

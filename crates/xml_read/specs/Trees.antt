@@ -14,6 +14,7 @@ use Rattle.model.specs.Xml.{startTag, endTag, contentXml, xml}
 use Rattle.model.specs.Intake.{siblings, differ, mayShow, inForm, ownLive, Sends, Sending}
 use Rattle.scan.specs.Text.{begins, isFront}
 use Rattle.scan.specs.Shown.{shownAs}
+use Rattle.xml_read.specs.Records.{Mark, marks, Noted}
 use Rattle.xml_read.specs.declared.Tree.{Tree}
 use Rattle.xml_read.specs.declared.Part.{Part}
 use Rattle.xml_read.specs.declared.HeadRead.{HeadRead}
@@ -45,7 +46,8 @@ pub record Headed (l : List ℕ) (a : Step) (c : Option Content) (r : List ℕ) 
 abbrev pub HeadAt : List ℕ → ℕ → HeadRead → Type 0
 HeadAt l at (head.Is h) =
     (at < h .next) × (h .next ≤ length l) ×
-    ((c : Option Content) × (shownAs c ≡ h .shown) × Headed (drop at l) (record { name = h .name; label = h .label }) c (drop (h .next) l))
+    ((c : Option Content) × (shownAs c ≡ h .shown) × Headed (drop at l) (record { name = h .name; label = h .label }) c (drop (h .next) l) ×
+    (h .value ≡ at + length (startTag (record { name = h .name; label = h .label }) c)))
 HeadAt l at head.None = (a : Step) (c : Option Content) (r : List ℕ) → Headed (drop at l) a c r → ⊥
 
 -- an element that shows k, of label n, is live and bears label s, and so do those inside it
@@ -54,9 +56,9 @@ ownShown k n s inside = not (eqb k 3) && (eqb n s && inside)
 
 -- ---- one tree
 
--- below d steps, for label s: the tree, in form, that stands between two places, how many elements it has, and whether each is live and of
--- the label
-pub record ReadTree (l : List ℕ) (at d s : ℕ) (t : Tree) : Type 0 where
+-- below d steps, for label s: the tree, in form, that stands between two places, how many elements it has, whether each is live and of
+-- the label, and what w says of the marks of its elements
+pub record ReadTree (l : List ℕ) (at d s : ℕ) (w : List Mark → Type 0) (t : Tree) : Type 0 where
   pub content : Option Content
   pub inside : Forest
   pub form : T (inForm d (one (record { name = t .name; label = t .label }) content inside))
@@ -65,17 +67,18 @@ pub record ReadTree (l : List ℕ) (at d s : ℕ) (t : Tree) : Type 0 where
   pub counts : t .count ≡ size (one (record { name = t .name; label = t .label }) content inside)
   pub fewer : at + t .count ≤ t .next
   pub own : t .own ≡ ownLive s (one (record { name = t .name; label = t .label }) content inside)
+  pub noted : w (marks d at (one (record { name = t .name; label = t .label }) content inside))
 
 -- what a tree read at a place says
-abbrev pub TreeAt : List ℕ → ℕ → ℕ → ℕ → TreeRead → Type 0
-TreeAt l at d s (tree.Is t) = ReadTree l at d s t
-TreeAt l at d s tree.None =
+abbrev pub TreeAt : List ℕ → ℕ → ℕ → ℕ → (List Mark → Type 0) → TreeRead → Type 0
+TreeAt l at d s w (tree.Is t) = ReadTree l at d s w t
+TreeAt l at d s w tree.None =
     (a : Step) (c : Option Content) (inside : Forest) (r : List ℕ) → T (inForm d (one a c inside)) → drop at l ≡ xml (one a c inside) ++ r → ⊥
 
 -- ---- the trees inside an element
 
 -- the same of the trees up to an end tag; they differ in their steps, if it is one
-pub record ReadPart (l : List ℕ) (at d s : ℕ) (p : Part) : Type 0 where
+pub record ReadPart (l : List ℕ) (at d s : ℕ) (w : List Mark → Type 0) (p : Part) : Type 0 where
   pub trees : Forest
   pub form : T (inForm d trees)
   pub differs : (n : ℕ) (r : List ℕ) → drop (p .next) l ≡ endTag n ++ r → T (differ (siblings trees))
@@ -85,24 +88,26 @@ pub record ReadPart (l : List ℕ) (at d s : ℕ) (p : Part) : Type 0 where
   pub counts : p .count ≡ size trees
   pub fewer : at + p .count ≤ p .next
   pub own : p .own ≡ ownLive s trees
+  pub noted : w (marks d at trees)
 
 -- what they say, read at a place
-abbrev pub PartAt : List ℕ → ℕ → ℕ → ℕ → PartRead → Type 0
-PartAt l at d s (part.Is p) = ReadPart l at d s p
-PartAt l at d s part.None =
+abbrev pub PartAt : List ℕ → ℕ → ℕ → ℕ → (List Mark → Type 0) → PartRead → Type 0
+PartAt l at d s w (part.Is p) = ReadPart l at d s w p
+PartAt l at d s w part.None =
     (f : Forest) (n : ℕ) (r : List ℕ) → T (inForm d f) → T (differ (siblings f)) → drop at l ≡ xml f ++ (endTag n ++ r) → ⊥
 
 -- ---- a whole text
 
--- the tree that a text sends, its step, how many elements it has, and whether each is live and of the label
-pub record Sent (d s : ℕ) (l : List ℕ) (t : Tree) : Type 0 where
+-- the tree that a text sends, its step, how many elements it has, whether each is live and of the label, and the marks of the first of them
+pub record Sent (d s : ℕ) (l heads places : List ℕ) (t : Tree) : Type 0 where
   pub trees : Forest
   pub sends : Sends d l trees
   pub step : siblings trees ≡ record { name = t .name; label = t .label } ∷ []
   pub counts : t .count ≡ size trees
   pub own : t .own ≡ ownLive s trees
+  pub noted : Noted heads places (marks d 0 trees)
 
 -- what a whole text says; it sends one tree, or none
-abbrev pub SentBy : ℕ → ℕ → List ℕ → TreeRead → Type 0
-SentBy d s l (tree.Is t) = Sent d s l t
-SentBy d s l tree.None = Sending d l empty
+abbrev pub SentBy : ℕ → ℕ → List ℕ → List ℕ → List ℕ → TreeRead → Type 0
+SentBy d s l heads places (tree.Is t) = Sent d s l heads places t
+SentBy d s l heads places tree.None = Sending d l empty

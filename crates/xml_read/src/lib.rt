@@ -1,20 +1,24 @@
 // A tree read from a text. An element and the elements inside it are read by functions that call each other, at most six elements deep;
-// nothing is kept of the text but, of each element that is being read, the keys of the first 32 elements inside it.
+// nothing is kept of the text but, of each element that is being read, the keys of the first 32 elements inside it, and of the first 32 elements
+// of all what is needed to put them in.
 
 use scan_tag::EndRead;
 use scan_tag::TagRead;
 use scan_value::ValueRead;
 ghost use mathlib.Core.Path.{_≡_};
 ghost use mathlib.Core.Bool.{_&&_};
-ghost use Prim.Native.Nat.{_+_, _≤_};
+ghost use mathlib.Core.List.{[], _∷_};
+ghost use Prim.Native.Nat.{_+_, _≤_, _<_};
 ghost use lib.ListN.{length};
+ghost use Rattle.xml_read.specs.Records.{Marked};
 ghost use Rattle.xml_read.specs.Trees.{ownShown, HeadAt, TreeAt, PartAt, SentBy};
 
-// An element's step, what it shows, and where its value ends.
+// An element's step, what it shows, and where its value begins and ends.
 struct Head {
     name: u64,
     label: u64,
     shown: u8,
+    value: usize,
     next: usize,
 }
 
@@ -68,6 +72,7 @@ fn head_at(text: &[u8], at: usize) -> HeadRead
         name: tag.name,
         label: tag.label,
         shown: tag.shown,
+        value: tag.next,
         next,
     })
 }
@@ -85,10 +90,38 @@ fn is_own(shown: u8, label: u64, subject: u64, inside: bool) -> bool
     inside
 }
 
-// The tree at a place, below so many steps.
-fn tree_at(text: &[u8], at: usize, depth: usize, subject: u64) -> TreeRead
-    requires { ⌜ at ≤ length (now text) ⌝ }
-    ensures { λ r. ⌜ TreeAt (now (text .entry)) at depth subject r ⌝ }
+// Keeps an element's name, what it shows, how many steps are above it and where its value begins, if fewer than 32 elements are before it.
+fn note(
+    heads: &mut [u64],
+    places: &mut [usize],
+    k: usize,
+    name: u64,
+    shown: u8,
+    depth: usize,
+    value: usize,
+)
+    requires { ⌜ (length (now heads) ≡ 32) × (length (now places) ≡ 32) × (name ≤ 65535) × (depth < 6) ⌝ }
+    ensures { λ r. ⌜ Marked (now (heads .entry)) (now (places .entry)) k (now (heads .exit)) (now (places .exit)) (record { steps = depth; name = name; shown = shown; place = value } ∷ []) ⌝ }
+{
+    if 32 <= k {
+        return;
+    }
+    heads[k] = 64 * name + 8 * (shown as u64) + (depth as u64);
+    places[k] = value;
+}
+
+// The tree at a place, below so many steps and behind k elements.
+fn tree_at(
+    text: &[u8],
+    at: usize,
+    depth: usize,
+    subject: u64,
+    heads: &mut [u64],
+    places: &mut [usize],
+    k: usize,
+) -> TreeRead
+    requires { ⌜ (at ≤ length (now text)) × (k ≤ at) × (length (now heads) ≡ 32) × (length (now places) ≡ 32) ⌝ }
+    ensures { λ r. ⌜ TreeAt (now (text .entry)) at depth subject (Marked (now (heads .entry)) (now (places .entry)) k (now (heads .exit)) (now (places .exit))) r ⌝ }
 {
     if 6 <= depth {
         return TreeRead::None;
@@ -96,7 +129,9 @@ fn tree_at(text: &[u8], at: usize, depth: usize, subject: u64) -> TreeRead
     let HeadRead::Is(head) = head_at(text, at) else {
         return TreeRead::None;
     };
-    let PartRead::Is(inside) = inside_at(text, head.next, depth + 1, subject) else {
+    note(heads, places, k, head.name, head.shown, depth, head.value);
+    let PartRead::Is(inside) = inside_at(text, head.next, depth + 1, subject, heads, places, k + 1)
+    else {
         return TreeRead::None;
     };
     let EndRead::Is(next) = scan_tag::end_at(text, inside.next, head.name) else {
@@ -133,10 +168,18 @@ fn with_tree(p: Part, t: Tree) -> Part
     }
 }
 
-// The trees from a place on, up to an end tag.
-fn inside_at(text: &[u8], at: usize, depth: usize, subject: u64) -> PartRead
-    requires { ⌜ at ≤ length (now text) ⌝ }
-    ensures { λ r. ⌜ PartAt (now (text .entry)) at depth subject r ⌝ }
+// The trees from a place on, behind k elements, up to an end tag.
+fn inside_at(
+    text: &[u8],
+    at: usize,
+    depth: usize,
+    subject: u64,
+    heads: &mut [u64],
+    places: &mut [usize],
+    k: usize,
+) -> PartRead
+    requires { ⌜ (at ≤ length (now text)) × (k ≤ at) × (length (now heads) ≡ 32) × (length (now places) ≡ 32) ⌝ }
+    ensures { λ r. ⌜ PartAt (now (text .entry)) at depth subject (Marked (now (heads .entry)) (now (places .entry)) k (now (heads .exit)) (now (places .exit))) r ⌝ }
 {
     let mut keys = [0u32; 32];
     let mut n: usize = 0;
@@ -146,7 +189,8 @@ fn inside_at(text: &[u8], at: usize, depth: usize, subject: u64) -> PartRead
         own: true,
     };
     while !scan::starts(text, p.next, b"</") {
-        let TreeRead::Is(t) = tree_at(text, p.next, depth, subject) else {
+        let TreeRead::Is(t) = tree_at(text, p.next, depth, subject, heads, places, k + p.count)
+        else {
             return PartRead::None;
         };
         if !siblings::add(text, at, &mut keys, n, t.name, t.label) {
@@ -158,11 +202,18 @@ fn inside_at(text: &[u8], at: usize, depth: usize, subject: u64) -> PartRead
     PartRead::Is(p)
 }
 
-// The tree that a whole text sends, to be put below so many steps.
-pub fn read(text: &[u8], above: usize, subject: u8) -> TreeRead
-    ensures { λ r. ⌜ SentBy above subject (now (text .entry)) r ⌝ }
+// The tree that a whole text sends, to be put below so many steps; its first 32 elements are kept.
+pub fn read(
+    text: &[u8],
+    above: usize,
+    subject: u8,
+    heads: &mut [u64],
+    places: &mut [usize],
+) -> TreeRead
+    requires { ⌜ (length (now heads) ≡ 32) × (length (now places) ≡ 32) ⌝ }
+    ensures { λ r. ⌜ SentBy above subject (now (text .entry)) (now (heads .exit)) (now (places .exit)) r ⌝ }
 {
-    let TreeRead::Is(t) = tree_at(text, 0, above, subject as u64) else {
+    let TreeRead::Is(t) = tree_at(text, 0, above, subject as u64, heads, places, 0) else {
         return TreeRead::None;
     };
     if t.next < text.len() {

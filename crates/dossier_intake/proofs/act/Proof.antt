@@ -20,34 +20,38 @@ act-spec =
     let raw = c .before .before in
     let opened = lent-opened (raw .before .before .before .before .before .before .pre) (raw .before .some-raw .ensures) (raw .if1 .left) in
     take-stray _ _ _ _ opened (c .before .is-view-path .ensures) (c .if2 .taken))
+    (λ c. search needs)  -- slice-aggregate-read
+    (λ c. search needs)  -- slice-aggregate-read-2
     (λ c κs. search needs)  -- read-requires
     (λ c. search needs)  -- enum-known-tree
     (λ c. search needs)  -- enum-told
     (λ c. search needs)  -- same-length-3
     -- returns-3
     (λ c.
-    let read = c .before .before in
-    let path = read .before in
+    let read = c .before .before .before .before in
+    let path = read .before .before .before in
     let raw = path .before .before in
     let opened = lent-opened (raw .before .before .before .before .before .before .pre) (raw .before .some-raw .ensures) (raw .if1 .left) in
-    take-unread _ _ _ _ opened (path .before .is-view-path .ensures) (path .if2 .left) _ refl _ (read .read .ensures) (c .enum-told .given .1))
+    take-unread _ _ _ _ opened (path .before .is-view-path .ensures) (path .if2 .left) _ refl _ _ _ (read .read .ensures) (c .enum-told .given .1))
     (λ c. search needs)  -- same-length-4
     -- returns-4
     (λ c.
     let tree = c .before .before .before in
-    let read = tree .before .before in
-    let path = read .before in
+    let read = tree .before .before .before .before in
+    let path = read .before .before .before in
     let raw = path .before .before in
     let opened = lent-opened (raw .before .before .before .before .before .before .pre) (raw .before .some-raw .ensures) (raw .if1 .left) in
-    take-foreign _ _ _ _ opened (path .before .is-view-path .ensures) (path .if2 .left) _ refl _ (read .read .ensures) (tree .tree .given .1) (c .if3 .taken))
+    take-foreign _ _ _ _ opened (path .before .is-view-path .ensures) (path .if2 .left) _ refl _ _ _ (read .read .ensures) (tree .tree .given .1) (c .if3 .taken))
+    (λ c. search needs)  -- slice-aggregate-take
+    (λ c. search needs)  -- slice-aggregate-take-2
     -- take-requires
     (λ c κs.
-    let tree = c .before .before .before .before in
-    let read = tree .before .before in
-    let path = read .before in
+    let tree = c .before .before .before .before .before .before in
+    let read = tree .before .before .before .before in
+    let path = read .before .before .before in
     let raw = path .before .before in
     let opened = lent-opened (raw .before .before .before .before .before .before .pre) (raw .before .some-raw .ensures) (raw .if1 .left) in
-    take-ready _ _ _ _ opened (path .before .is-view-path .ensures) (path .if2 .left) _ refl _ (read .read .ensures) (tree .tree .given .1) (c .before .if3 .left))
+    take-ready _ _ _ _ opened (path .before .is-view-path .ensures) (path .if2 .left) _ refl _ _ _ (read .read .ensures) (tree .tree .given .1) (c .before .before .before .if3 .left))
     (λ c. search needs)  -- same-length-5
     (λ c. search needs)  -- returns-5
     )

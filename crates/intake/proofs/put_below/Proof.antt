@@ -17,7 +17,7 @@ put-below-spec =
     (λ c. search needs)  -- part-put-end
     -- put-requires
     (λ c κs.
-    let written = c .before .before .before .before .before .before in
+    let written = c .before .before .before .before .before .before .before in
     let start = written .before .before .before .before in
     let below = start .pre .0 in
     let step = written .put-step .ensures in
@@ -26,7 +26,7 @@ put-below-spec =
     (λ c. search needs)  -- same-length-2
     -- returns
     (λ c.
-    let written = c .before .before .before .before .before .before .before .before .before in
+    let written = c .before .before .before .before .before .before .before .before .before .before in
     let below = written .before .before .before .before .pre .0 in
     let step = written .put-step .ensures in
     (below-stepped below step, lent-put below step _ (c .before .before .put .ensures)))
