@@ -4,7 +4,7 @@ use mathlib.Core.List.{List, [], _∷_, _++_, append-assoc}
 use Prim.Native.Nat.{ℕ, _+_, _-_, _≤_}
 use native.Mathlib.Omega.{arith}
 use borrow.Rule.Slice.PartMut.{putMid}
-use lib.ListN.{length, take, drop, set, take-append-drop, length-drop}
+use lib.ListN.{length, take, drop, take-append-drop, length-drop}
 use lib.Seq.{take-all, take-at, length-take-le, drop-append-le}
 use Rattle.model.specs.Path.{Step, isPrefix, stepsOf}
 use Rattle.model.specs.Value.{Content}
@@ -33,8 +33,8 @@ module _ {v : Value} (l : List ℕ) where
   pub group-brought : v ≡ Group → (b : List ℕ) → contentOf (valueOf v l) ≡ record { kind = 0; value = take 0 b }
   group-brought e b = ap (λ (u : Value). contentOf (valueOf u l)) e
 
-  pub measure-brought : {m : ℕ} → v ≡ Measure m → (b : List ℕ) → take 4 b ≡ wordBytes m → contentOf (valueOf v l) ≡ record { kind = 1; value = take 4 b }
-  measure-brought e b f = ap (λ (u : Value). contentOf (valueOf u l)) e ∙ ap (λ (t : List ℕ). record { kind = 1; value = t }) (sym f)
+  pub measure-brought : {m : ℕ} → v ≡ Measure m → (b : List ℕ) {r : List ℕ} → b ≡ wordBytes m ++ r → contentOf (valueOf v l) ≡ record { kind = 1; value = take 4 b }
+  measure-brought e b f = ap (λ (u : Value). contentOf (valueOf u l)) e ∙ ap (λ (t : List ℕ). record { kind = 1; value = take 4 t }) (sym f)
 
   pub text-brought : {n : ℕ} → v ≡ Text n → {at : ℕ} → at ≡ length l - n → (b : List ℕ) {t y : List ℕ} → t ≡ drop at l → y ≡ take (length t) t ++ drop (length t) b
       → contentOf (valueOf v l) ≡ record { kind = 2; value = take (length t) y }

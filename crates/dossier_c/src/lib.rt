@@ -1,5 +1,5 @@
 // The calls as C functions. A slice is passed as a pointer and a length; the result is returned by value.
-ghost use Rattle.promise.specs.Did.{Viewed, Inserted, Updated, Deleted, ViewedXml, Graded, TookIn};
+ghost use Rattle.promise.specs.Did.{Viewed, Inserted, Updated, Deleted, ViewedXml, Graded, InsertedXml};
 
 // What a call answers: 0 or the number of its refusal, and its count.
 #[repr(C)]
@@ -120,7 +120,7 @@ pub extern "C" fn dossier_insert_xml(
     parent: &[u8],
     text: &[u8],
 ) -> Answer
-    ensures { λ r. ⌜ TookIn subject (now (parent .entry)) (now (text .entry)) (now (store .entry)) (r .number) (r .count) (now (store .exit)) ⌝ }
+    ensures { λ r. ⌜ InsertedXml subject (now (parent .entry)) (now (text .entry)) (now (store .entry)) (r .number) (r .count) (now (store .exit)) ⌝ }
 {
     let done = dossier_intake::insert_xml(store, subject, parent, text);
     Answer {

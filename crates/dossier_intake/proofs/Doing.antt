@@ -6,21 +6,21 @@ use mathlib.Core.List.{List, [], _∷_, _++_, List·Memᴰ·head}
 use Prim.Native.Nat.{ℕ, _+_, _-_, _/_, _%_, _≤_, _<_}
 use native.Mathlib.Omega.{arith}
 use lib.ListN.{length, take, drop, length-append}
-use lib.Dec.{T, eqb, leb, ltb}
-use mir.Facts.{or-yes, eqb-yes, leb-yes}
+use lib.Dec.{T, eqb}
+use mir.Facts.{or-yes, eqb-yes}
 use borrow.Author.Tests.{not-false}
-use Rattle.model.specs.Lists.{any, _∈_}
-use Rattle.model.specs.Label.{isLabel}
+use Rattle.model.specs.Lists.{_∈_}
 use Rattle.model.specs.Path.{Step, validStep, stepsOf}
 use Rattle.model.specs.Element.{Element}
 use Rattle.model.specs.Partition.{layout, readPartition, wellFormed}
 use Rattle.model.specs.Store.{replace}
-use Rattle.model.specs.Model.{openModel, ownSet, live}
+use Rattle.model.specs.Model.{openModel, ownSet}
 use Rattle.model.specs.Tree.{Forest, empty, element, entries}
 use Rattle.model.specs.Intake.{siblings, inForm, ownLive, isOne, Sends, Sending, elementsOf, withAll}
-use Rattle.model.specs.Rows.{row, rowCode, someRaw, seenRows, goodPath, viewPath, viewPathRows, sentRows, takeRows}
+use Rattle.model.specs.Rows.{row, rowCode, someRaw, goodPath, viewPath, viewPathRows, sentRows, treeRows, takeRows}
 use Rattle.model.specs.Call.{insertXml, opRows, changes, effect}
-use Rattle.model.proofs.Bools.{and-l, and-r, both, yes-not-not, not-not}
+use Rattle.model.proofs.Bools.{both, yes-not-not, not-not}
+use Rattle.model.proofs.Paths.{step-ranges}
 use Rattle.model.proofs.Rows.{Passes, passes-append, row-applies, rows-behind, rows-pass}
 use Rattle.model.proofs.Keeps.{open-valid}
 use Rattle.model.proofs.Sending.{ElementForm, form-parts}
@@ -33,7 +33,7 @@ use Rattle.table.proofs.Entering.{entry-refused, entry-did}
 use Rattle.table.specs.declared.Opening.{Opening}
 use Rattle.table.specs.declared.Opening.the-variants.{Refused, Open}
 use Rattle.table.specs.Opening.{Opens}
-use Rattle.promise.specs.Did.{TookIn}
+use Rattle.promise.specs.Did.{InsertedXml}
 use Rattle.promise.proofs.Doing.{acted-raw, acted-refused, acted-done}
 use Rattle.xml_read.specs.declared.Tree.{Tree}
 use Rattle.xml_read.specs.declared.TreeRead.{TreeRead}
@@ -41,7 +41,7 @@ use Rattle.xml_read.specs.declared.TreeRead.the-variants as tree
 use Rattle.xml_read.specs.Trees.{size, Sent, SentBy}
 use Rattle.xml_read.specs.Records.{marks, Noted}
 use Rattle.intake.specs.Putting.{above, Comes, Took}
-use Rattle.dossier_intake.specs.Taking.{treeRows, TreeRow, TopPath, Ready, ActedXml}
+use Rattle.dossier_intake.specs.Taking.{TreeRow, TopPath, Ready, ActedXml}
 
 -- trees have as many entries as elements
 size-entries : (r : List Step) (f : Forest) → length (entries r f) ≡ size f
@@ -155,22 +155,20 @@ module _ {s : ℕ} {p t b : List ℕ} {name n : ℕ} {hs ps : List ℕ} (r : Rea
 
   -- the path above has room for the step
   pub ready-path : (length p % 3 ≡ 0) × (length p ≤ 15) × (name ≤ 65535)
-  unfolding validStep
   ready-path =
       let f = top-form (length (stepsOf p)) (r .sent) top (r .sends .ranges) (r .step) in
       let e : length (stepsOf p) ≡ length p / 3 = length-steps p in
       let w : length p % 3 ≡ 0 = view-whole p (r .path) in
-      (w, omega (arith, f .0), leb-yes (and-r (leb 1 name) (leb name 65535) (and-l (leb 1 name && leb name 65535) (isLabel s) (f .1))))
+      (w, omega (arith, f .0), step-ranges top (f .1) .1)
 
   -- rows 4, 13 and 14 have passed
   front-passes : Passes (viewPathRows p ++ sentRows s (length (stepsOf p)) (r .sent))
   front-passes = (yes-not-not (viewPath p) (r .path), (sends-passes (r .sends), (yes-not-not (ownLive s (r .sent)) (r .own), tt)))
 
   -- its rows behind them
-  rows-same : treeRows s (openModel b) (stepsOf p) top n ≡ takeRows s (openModel b) (stepsOf p) (r .sent)
+  rows-same : treeRows s (openModel b) (stepsOf p) (top ∷ []) n ≡ takeRows s (openModel b) (stepsOf p) (r .sent)
   rows-same =
-      ap₂ (λ (q : List Step) (k : ℕ). seenRows s (openModel b) (stepsOf p) ++ (row 8 (any (λ a. live (openModel b) (stepsOf p ++ (a ∷ []))) q) ∷ row 9 (ltb 32 (length (ownSet s (openModel b)) + k)) ∷ []))
-      (sym (r .step)) (r .counts ∙ sym (size-entries (stepsOf p) (r .sent)))
+      ap₂ (λ (q : List Step) (k : ℕ). treeRows s (openModel b) (stepsOf p) q k) (sym (r .step)) (r .counts ∙ sym (size-entries (stepsOf p) (r .sent)))
 
   module _ {buffer : List ℕ} (w : TopPath p top buffer) {k : ℕ} (e : TreeRow s b p (take (length p + 3 - 0) (drop 0 buffer)) n k) where
     row-is : k ≡ rowCode (takeRows s (openModel b) (stepsOf p) (r .sent))
@@ -238,11 +236,11 @@ module _ {s : ℕ} {p t b : List ℕ} {name n : ℕ} {hs ps : List ℕ} (r : Rea
 
 module _ (s : ℕ) (b : List ℕ) (r : Opening) (d : Opens r s b) {p t : List ℕ} where
   -- rows 1 and 2 refuse it
-  pub take-shut : {k : ℕ} → r ≡ Refused k → TookIn s p t b k 0 b
+  pub take-shut : {k : ℕ} → r ≡ Refused k → InsertedXml s p t b k 0 b
   take-shut {k} e =
       let f = sending-exists (length (stepsOf p)) t in
       record { sent = f .0; reads = f .1; did = entry-refused s b r d e (insertXml p (f .0)) [] }
 
   -- it has done what is done for the label
-  pub take-open : {l : ℕ} → r ≡ Open l → {k n : ℕ} {b' : List ℕ} → ActedXml l p t b k n b' → TookIn s p t b k n b'
+  pub take-open : {l : ℕ} → r ≡ Open l → {k n : ℕ} {b' : List ℕ} → ActedXml l p t b k n b' → InsertedXml s p t b k n b'
   take-open e a = record { sent = a .sent; reads = a .reads; did = entry-did s b r d e (insertXml p (a .sent)) (a .acted) }

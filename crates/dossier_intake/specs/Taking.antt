@@ -3,13 +3,12 @@ use mathlib.Core.Path.{_≡_}
 use mathlib.Core.List.{List, [], _∷_, _++_}
 use Prim.Native.Nat.{ℕ, _+_, _*_, _/_}
 use lib.ListN.{length, take}
-use lib.Dec.{T, ltb}
-use Rattle.model.specs.Lists.{any}
+use lib.Dec.{T}
 use Rattle.model.specs.Path.{Step, stepsOf}
-use Rattle.model.specs.Model.{Model, ownSet, live, openModel}
+use Rattle.model.specs.Model.{openModel}
 use Rattle.model.specs.Tree.{Forest}
 use Rattle.model.specs.Intake.{siblings, ownLive, Sends, Sending}
-use Rattle.model.specs.Rows.{Row, row, viewPath, seenRows, rowCode}
+use Rattle.model.specs.Rows.{viewPath, treeRows, rowCode}
 use Rattle.model.specs.Call.{insertXml, counted}
 use Rattle.store.specs.Opened.{Opened}
 use Rattle.promise.specs.Did.{Acted}
@@ -22,14 +21,11 @@ pub record TopPath (p : List ℕ) (a : Step) (buffer : List ℕ) : Type 0 where
   pub above : stepsOf (take (3 * (length p / 3)) buffer) ≡ stepsOf p
   pub whole : stepsOf (take (length p + 3) buffer) ≡ stepsOf p ++ (a ∷ [])
 
--- rows 7 to 9 of a tree of n elements, whose own has the step a, below the path p
-abbrev pub treeRows : ℕ → Model → List Step → Step → ℕ → List Row
-treeRows s m p a n = seenRows s m p ++ (row 8 (any (λ b. live m (p ++ (b ∷ []))) (a ∷ [])) ∷ row 9 (ltb 32 (length (ownSet s m) + n)) ∷ [])
-
--- the number of the first of these rows that applies, or 0, for the paths of the parent and of the tree's own element, which bears the label
+-- the number of the first of rows 7 to 9 that applies, or 0, for a tree of n elements and the paths of its parent and of its own element,
+-- which bears the label
 abbrev pub TreeRow : (s : ℕ) (store parent path : List ℕ) (n number : ℕ) → Type 0
 TreeRow s b p q n k =
-    (a : Step) → a .label ≡ s → stepsOf q ≡ stepsOf p ++ (a ∷ []) → k ≡ rowCode (treeRows s (openModel b) (stepsOf p) a n)
+    (a : Step) → a .label ≡ s → stepsOf q ≡ stepsOf p ++ (a ∷ []) → k ≡ rowCode (treeRows s (openModel b) (stepsOf p) (a ∷ []) n)
 
 -- rows 1 to 4, 13 and 14 do not apply: the tree of n elements that the text sends, the name of its own, and what is kept of the elements
 pub record Ready (s : ℕ) (parent text store : List ℕ) (name n : ℕ) (heads places : List ℕ) : Type 0 where

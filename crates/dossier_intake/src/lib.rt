@@ -4,13 +4,13 @@ mod rows;
 use dossier::Answer;
 use table::Opening;
 use xml_read::TreeRead;
-ghost use Rattle.promise.specs.Did.{TookIn};
+ghost use Rattle.promise.specs.Did.{InsertedXml};
 ghost use Rattle.table.specs.Opening.{Lent};
 ghost use Rattle.dossier_intake.specs.Taking.{Ready, ActedXml};
 
 // Takes in the style that the text sends, below the parent: how many elements came.
 pub fn insert_xml(store: &mut [u8], subject: u32, parent: &[u8], text: &[u8]) -> Answer
-    ensures { λ r. ⌜ TookIn subject (now (parent .entry)) (now (text .entry)) (now (store .entry)) (r .number) (r .count) (now (store .exit)) ⌝ }
+    ensures { λ r. ⌜ InsertedXml subject (now (parent .entry)) (now (text .entry)) (now (store .entry)) (r .number) (r .count) (now (store .exit)) ⌝ }
 {
     match table::open(store, subject) {
         Opening::Refused(number) => Answer { number, count: 0 },

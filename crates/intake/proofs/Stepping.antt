@@ -7,14 +7,11 @@ use native.Mathlib.Omega.{arith}
 use lib.ListN.{length, take}
 use lib.Seq.{length-take-le}
 use lib.Dec.{T}
-use mir.Facts.{leb-yes}
-use Rattle.model.specs.Path.{Step, validStep, isPrefix, stepsOf}
-use Rattle.model.specs.Label.{isLabel}
+use Rattle.model.specs.Path.{Step, isPrefix, stepsOf}
 use Rattle.model.specs.Value.{Content}
 use Rattle.model.specs.Partition.{layout, readPartition}
 use Rattle.model.specs.Call.{added}
-use Rattle.model.proofs.Bools.{and-l, and-r}
-use Rattle.model.proofs.Dominance.{label-lt}
+use Rattle.model.proofs.Paths.{step-ranges}
 use Rattle.model.proofs.Prefixes.{prefix-take, prefix-whole, prefix-of-longer}
 use Rattle.partition.specs.Place.{placeOf, Room}
 use Rattle.path.specs.Steps.{putStep}
@@ -54,17 +51,12 @@ front-above r b h t =
 
 -- ---- a step written
 
--- the numbers of a valid step
-step-fits : (a : Step) → T (validStep a) → (a .name ≤ 65535) × (a .label ≤ 255)
-unfolding validStep
-step-fits a t =
-    let label : T (isLabel (a .label)) = search (and-l, and-r) in
-    (leb-yes (search (and-l, and-r)), omega (arith, label-lt (a .label) label))
-
 module _ {x path : List ℕ} {n : ℕ} {a : Step} (b : Below x path n a) where
   -- there is room for its bytes, and they hold it
   pub below-fits : (3 * n + 3 ≤ length path) × ((a .name ≤ 65535) × (a .label ≤ 255))
-  below-fits = (omega (arith, b .size, b .shallow), step-fits a (b .step))
+  below-fits =
+      let s = step-ranges a (b .step) in
+      (omega (arith, b .size, b .shallow), (s .1, omega (arith, s .2)))
 
   module _ {path' : List ℕ} (w : path' ≡ putStep path n (a .name) (a .label)) where
     -- it is written

@@ -33,7 +33,7 @@ fn unpack(head: u64, label: u8) -> Head
 }
 
 // Puts an element into a partition, which has room and no element at the path; its value is the first bytes of the buffer. Its place is
-// looked for behind a slot first. The result is its slot.
+// looked for behind a slot first. The result is its slot, which helps to find the next; no contract speaks of it.
 fn put(part: &mut [u8], near: usize, path: &[u8], kind: u8, value: &[u8], size: usize) -> usize
     requires { ⌜ Room (now part) (placeOf (stepsOf (now path)) (readPartition (now part))) (stepsOf (now path)) ⌝ }
     requires { ⌜ (length (now path) ≤ 20) × (size ≤ 16) × (size ≤ length (now value)) ⌝ }
@@ -45,7 +45,7 @@ fn put(part: &mut [u8], near: usize, path: &[u8], kind: u8, value: &[u8], size: 
     at
 }
 
-// Puts an element in: its step is written into the path, behind those above it. The result is its slot.
+// Puts an element in: its step is written into the path, behind those above it. The result is as of `put`.
 fn put_below(
     part: &mut [u8],
     near: usize,
@@ -63,7 +63,7 @@ fn put_below(
     put(part, near, &path[0..end], head.kind, value, size)
 }
 
-// Puts in an element whose value begins at a place of the text. The result is its slot.
+// Puts in an element whose value begins at a place of the text. The result is as of `put`.
 fn put_read(
     part: &mut [u8],
     text: &[u8],
@@ -82,8 +82,8 @@ fn put_read(
     put_below(part, near, path, head, &value, size)
 }
 
-// The slot behind which an element is looked for first: that of the element put in last, if it comes behind the one before it under one
-// parent, else its parent's. Any slot would do.
+// The slot behind which an element is looked for first: that of the element put in last, if the name is above that of the sibling before
+// it, else its parent's. Any slot would do.
 fn near_of(names: &[u64; 9], slots: &[usize; 9], steps: usize, name: u64, last: usize) -> usize
     requires { ⌜ steps < 8 ⌝ }
 {

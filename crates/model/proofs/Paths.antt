@@ -8,10 +8,10 @@ use Prim.Native.Nat.{ℕ, _+_, _≤_, _<_}
 use native.Mathlib.Omega.{arith}
 use lib.ListN.{length, length-append}
 use lib.Dec.{T, eqb, ltb, eqb-refl}
-use mir.Facts.{or-no, eqb-yes, yes-eqb, ltb-no, T-not}
+use mir.Facts.{or-no, leb-yes, eqb-yes, yes-eqb, ltb-yes, ltb-no, T-not}
 use Rattle.model.specs.Sets.{precedes}
 use Rattle.model.specs.Label.{isLabel, dominates}
-use Rattle.model.specs.Path.{Step, sameStep, samePath, isPrefix, prefixes, parent, endsIn, labelsAscend, key, keys}
+use Rattle.model.specs.Path.{Step, validStep, sameStep, samePath, isPrefix, prefixes, parent, endsIn, labelsAscend, key, keys}
 use Rattle.model.specs.Lists.{_∈_}
 use Rattle.model.proofs.Bools.{and-l, and-r, both, not-second}
 use Rattle.model.proofs.Members.{map-in, in-map}
@@ -30,6 +30,15 @@ step-eq a b t =
 pub step-refl : (a : Step) → T (sameStep a a)
 unfolding sameStep
 step-refl a = both (eqb (a .name) (a .name)) (eqb (a .label) (a .label)) (eqb-refl (a .name)) (eqb-refl (a .label))
+
+-- the numbers of a valid step
+pub step-ranges : (a : Step) → T (validStep a) → (1 ≤ a .name) × (a .name ≤ 65535) × (a .label ≤ 31)
+unfolding validStep isLabel
+step-ranges a t =
+    let n : 1 ≤ a .name = leb-yes (search (and-l, and-r)) in
+    let m : a .name ≤ 65535 = leb-yes (search (and-l, and-r)) in
+    let l : a .label < 32 = ltb-yes (search (and-l, and-r)) in
+    (n, m, omega arith)
 
 pub same-eq : (p q : List Step) → T (samePath p q) → p ≡ q
 same-eq [] [] t = refl

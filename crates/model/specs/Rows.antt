@@ -113,11 +113,13 @@ measuredRows s m p q = seenRows s m p ++ seenRows s m q ++ measureRows s m p ++ 
 abbrev pub sentRows : ℕ → ℕ → Forest → List Row
 sentRows s d f = row 13 (not (isOne f && inForm d f)) ∷ row 14 (not (ownLive s f)) ∷ []
 
--- rows 7 to 9 of it, below the path p: the path is in view, the tree's own element is not there, and slots are free for all elements
+-- rows 7 to 9 of n elements below the path p, those next below it of the steps tops: it is in view, none of them is there, and n slots are free
+abbrev pub treeRows : ℕ → Model → List Step → List Step → ℕ → List Row
+treeRows s m p tops n = seenRows s m p ++ (row 8 (any (λ a. live m (p ++ (a ∷ []))) tops) ∷ row 9 (ltb 32 (length (ownSet s m) + n)) ∷ [])
+
+-- these rows of the trees that are sent
 abbrev pub takeRows : ℕ → Model → List Step → Forest → List Row
-takeRows s m p f =
-    seenRows s m p
-    ++ (row 8 (any (λ a. live m (p ++ (a ∷ []))) (siblings f)) ∷ row 9 (ltb 32 (length (ownSet s m) + length (entries p f))) ∷ [])
+takeRows s m p f = treeRows s m p (siblings f) (length (entries p f))
 
 -- row 10: what is written fits into the output
 abbrev pub roomRows : ℕ → List ℕ → List Row

@@ -3,7 +3,7 @@ use mathlib.Core.Path.{_≡_, refl}
 use mathlib.Core.List.{List, [], _∷_}
 use Prim.Native.Nat.{ℕ, _≤_, _<_}
 use native.Mathlib.Omega.{arith}
-use lib.ListN.{length, take, set}
+use lib.ListN.{length, drop, set}
 use lib.Seq.{lt-length-set}
 
 -- the places of a buffer that has room for four, one after another
@@ -17,7 +17,7 @@ pub fourth-fits : (b : List ℕ) (x y z : ℕ) → 4 ≤ length b → 3 < length
 fourth-fits b x y z h = lt-length-set (set (set b 0 x) 1 y) 2 z (lt-length-set (set b 0 x) 1 y (lt-length-set b 0 x (omega arith)))
 
 -- the four bytes stand there
-pub word-laid : (b : List ℕ) (x y z w : ℕ) → 4 ≤ length b → take 4 (set (set (set (set b 0 x) 1 y) 2 z) 3 w) ≡ x ∷ y ∷ z ∷ w ∷ []
+pub word-laid : (b : List ℕ) (x y z w : ℕ) → 4 ≤ length b → set (set (set (set b 0 x) 1 y) 2 z) 3 w ≡ x ∷ y ∷ z ∷ w ∷ drop 4 b
 word-laid [] x y z w h = absurd (omega arith)
 word-laid (a ∷ []) x y z w h = absurd (omega arith)
 word-laid (a ∷ b ∷ []) x y z w h = absurd (omega arith)

@@ -26,7 +26,7 @@ pub fn word(a: u8, b: u8, c: u8, d: u8) -> u32
 // Writes the four bytes of a word, the lowest first.
 pub fn put_word(m: u32, bytes: &mut [u8])
     requires { ⌜ 4 ≤ length (now bytes) ⌝ }
-    ensures { λ _. ⌜ take 4 (now (bytes .exit)) ≡ wordBytes m ⌝ }
+    ensures { λ _. ⌜ now (bytes .exit) ≡ wordBytes m ++ drop 4 (now (bytes .entry)) ⌝ }
 {
     bytes[0] = (m % 256) as u8;
     bytes[1] = (m / 256 % 256) as u8;

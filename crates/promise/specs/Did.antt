@@ -43,7 +43,7 @@ abbrev pub Graded : (subject : ℕ) (base top : List ℕ) (sizes : ℕ) (store :
 Graded s p q n b k z r = Did (by s (grade p q n)) b [] (gradeTold k z r) b []
 
 -- XML that was taken in: the tree that the text sends, or none, and what the call has done with it
-pub record TookIn (subject : ℕ) (parent text store : List ℕ) (number count : ℕ) (store' : List ℕ) : Type 0 where
+pub record InsertedXml (subject : ℕ) (parent text store : List ℕ) (number count : ℕ) (store' : List ℕ) : Type 0 where
   pub sent : Forest
   pub reads : Sending (length (stepsOf parent)) text sent
   pub did : Did (by subject (insertXml parent sent)) store [] (counted number count) store' []

@@ -5,12 +5,13 @@ use Prim.Native.Nat.{ℕ, _+_, _≤_, _<_}
 use native.Mathlib.Omega.{arith}
 use lib.ListN.{drop}
 use lib.Dec.{T, leb, ltb}
-use mir.Facts.{leb-yes, yes-leb, ltb-yes, yes-ltb}
+use mir.Facts.{yes-leb, yes-ltb}
 use Rattle.model.specs.Label.{isLabel}
 use Rattle.model.specs.Path.{Step, validStep}
 use Rattle.model.specs.Text.{ascii, decimal, isDigit}
 use Rattle.model.specs.Xml.{attribute, preserve, kindLetter, startTag}
-use Rattle.model.proofs.Bools.{and-l, and-r, both}
+use Rattle.model.proofs.Bools.{both}
+use Rattle.model.proofs.Paths.{step-ranges}
 use Rattle.scan.specs.declared.numbers.Number.{Number}
 use Rattle.scan.specs.declared.numbers.Number.the-variants as number
 use Rattle.scan.specs.Shown.{contentIn}
@@ -37,16 +38,7 @@ start-parts a k r =
     flat : (s n t l q p r : List ℕ) → (s ++ (n ++ ((t ++ (l ++ q)) ++ p))) ++ r ≡ s ++ (n ++ (t ++ (l ++ ((q ++ p) ++ r))))
     flat s n t l q p r = simp append-assoc
 
--- the numbers of a valid step
-step-ranges : (a : Step) → T (validStep a) → (1 ≤ a .name) × (a .name ≤ 65535) × (a .label ≤ 31)
-unfolding validStep isLabel
-step-ranges a t =
-    let n : 1 ≤ a .name = leb-yes (search (and-l, and-r)) in
-    let m : a .name ≤ 65535 = leb-yes (search (and-l, and-r)) in
-    let l : a .label < 32 = ltb-yes (search (and-l, and-r)) in
-    (n, m, omega arith)
-
--- and a step of such numbers is valid
+-- a step of such numbers is valid
 ranges-step : (n l : ℕ) → 1 ≤ n → n ≤ 65535 → l ≤ 31 → T (validStep (record { name = n; label = l }))
 unfolding validStep isLabel
 ranges-step n l h j k =

@@ -86,7 +86,7 @@ module _ (l : List ℕ) (at : ℕ) {x : Number} (s : SignedAt l at x) where
           T-not (begins 60 (drop next l)) (rw (u .1) o) (rw (← f, not-true t h) tt)
 
       -- a tag behind it
-      pub measure-found : not t ≡ false → (b : List ℕ) → take 4 b ≡ wordBytes m → ValueAt l at 1 b (Is 4 next)
+      pub measure-found : not t ≡ false → (b : List ℕ) {r : List ℕ} → b ≡ wordBytes m ++ r → ValueAt l at 1 b (Is 4 next)
       unfolding valueXml bringable
       measure-found h b w =
           let u = word-measure m (there .2) in (
@@ -96,7 +96,7 @@ module _ (l : List ℕ) (at : ℕ) {x : Number} (s : SignedAt l at x) where
             record {
               shows = rw w (u .0);
               ends = rw (← f, not-false t h) tt;
-              same = there .4 ∙ ap (λ (i : ℕ). signed i ++ drop next l) (sym (ap measureOf w ∙ u .1));
+              same = there .4 ∙ ap (λ (i : ℕ). signed i ++ drop next l) (sym (ap (λ (y : List ℕ). measureOf (take 4 y)) w ∙ u .1));
             },
           )
 

@@ -19,7 +19,7 @@ pub enum ValueRead {
     None,
 }
 
-// The character that stands behind an ampersand.
+// The character that is written at a place where an ampersand stands.
 fn escape_at(text: &[u8], at: usize) -> CharRead
     requires { ⌜ T (begins 38 (drop at (now text))) ⌝ }
     ensures { λ r. ⌜ CharAt (now (text .entry)) at r ⌝ }

@@ -1,7 +1,7 @@
 -- One step more than those known.
-use mathlib.Core.Path.{_≡_, refl, sym, ap, _∙_}
+use mathlib.Core.Path.{_≡_, sym, ap, _∙_}
 use mathlib.Core.Bool.{Bool, true, false}
-use mathlib.Core.List.{List, [], _∷_, _++_, map}
+use mathlib.Core.List.{List, [], _∷_, _++_, map, map-append}
 use Prim.Native.Nat.{ℕ, _+_, _≤_, _<_}
 use native.Mathlib.Omega.{arith}
 use lib.ListN.{length, take, set, length-append}
@@ -15,11 +15,6 @@ use Rattle.scan.proofs.Goings.{neither}
 use Rattle.siblings.specs.Differing.{keyOf, DifferAt, Known, Added}
 use Rattle.siblings.specs.Keys.{distinct}
 use Rattle.siblings.proofs.Distinct.{distinct-not, distinct-more, put-more, keys-differ, form-differ}
-
--- the keys of steps one behind the other
-map-append : (p q : List Step) → map keyOf (p ++ q) ≡ map keyOf p ++ map keyOf q
-map-append [] q = refl
-map-append (a ∷ p) q = ap (λ (r : List ℕ). keyOf a ∷ r) (map-append p q)
 
 module _ (l : List ℕ) (at : ℕ) (ks : List ℕ) (n : ℕ) (a : Step) (good : T (validStep a)) where
   -- with one step more: how many they are
@@ -65,7 +60,7 @@ module _ (l : List ℕ) (at : ℕ) (ks : List ℕ) (n : ℕ) (a : Step) (good : 
     pub added-clash : t ≡ true → Added l at ks n a ks false
     added-clash x p q f known s w d =
         let c : distinct (map keyOf (siblings f)) ≡ false =
-        ap distinct (ap (map keyOf) w ∙ map-append p (a ∷ q))
+        ap distinct (ap (map keyOf) w ∙ map-append keyOf p (a ∷ q))
         ∙ distinct-not (map keyOf p) (keyOf a) (among p known) (keys-known p known) x (map keyOf q) in
         neither c (form-differ (s .depth) f (s .form) ∙ is-true (differ (siblings f)) d)
 
@@ -75,10 +70,10 @@ module _ (l : List ℕ) (at : ℕ) (ks : List ℕ) (n : ℕ) (a : Step) (good : 
         record {
           many = many-more p known;
           valid = valid-more p known;
-          kept = λ less. put-more ks n k (omega arith) ∙ rw (same, known .kept (omega arith), map-append p (a ∷ []));
+          kept = λ less. put-more ks n k (omega arith) ∙ rw (same, known .kept (omega arith), map-append keyOf p (a ∷ []));
           differs =
               λ less.
-              rw (← (keys-differ (p ++ (a ∷ [])) (valid-more p known)), map-append p (a ∷ []))
+              rw (← (keys-differ (p ++ (a ∷ [])) (valid-more p known)), map-append keyOf p (a ∷ []))
               (distinct-more (map keyOf p) (keyOf a) (among p known) (keys-known p known) x);
           others = λ more. absurd (omega arith);
         }

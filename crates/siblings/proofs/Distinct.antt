@@ -7,14 +7,14 @@ use native.Mathlib.Numerals.{add-one}
 use native.Mathlib.Omega.{arith}
 use lib.ListN.{length, take, set}
 use lib.Seq.{take-suc-set}
-use lib.Dec.{T, eqb, leb, ltb}
-use mir.Facts.{leb-yes, ltb-yes, eqb-yes, yes-eqb}
+use lib.Dec.{T, eqb}
+use mir.Facts.{eqb-yes, yes-eqb}
 use Rattle.model.specs.Lists.{all, any}
-use Rattle.model.specs.Label.{isLabel}
 use Rattle.model.specs.Path.{Step, sameStep, validStep}
 use Rattle.model.specs.Tree.{Forest, empty, element}
 use Rattle.model.specs.Intake.{siblings, differ, inForm}
 use Rattle.model.proofs.Bools.{and-l, and-r, both, same-test}
+use Rattle.model.proofs.Paths.{step-ranges}
 use Rattle.model.proofs.Sending.{form-parts}
 use Rattle.siblings.specs.Differing.{keyOf}
 use Rattle.siblings.specs.Keys.{keysOf, fresh, distinct}
@@ -89,14 +89,6 @@ put-more ks n k h = rw (add-one n) (take-suc-set ks n k h)
 
 -- ---- the keys of steps
 
--- a valid step's name and label are in range
-pub step-range : (a : Step) → T (validStep a) → (1 ≤ a .name) × (a .name ≤ 65535) × (a .label ≤ 31)
-unfolding validStep isLabel
-step-range a t =
-    let n : T (leb 1 (a .name) && leb (a .name) 65535) = and-l (leb 1 (a .name) && leb (a .name) 65535) (ltb (a .label) 32) t in
-    let l : a .label < 32 = ltb-yes (and-r (leb 1 (a .name) && leb (a .name) 65535) (ltb (a .label) 32) t) in
-    (leb-yes (and-l (leb 1 (a .name)) (leb (a .name) 65535) n), leb-yes (and-r (leb 1 (a .name)) (leb (a .name) 65535) n), omega arith)
-
 -- a name and a label are told by their key
 key-told : (n l m k : ℕ) → l ≤ 31 → k ≤ 31 → 32 * n + l ≡ 32 * m + k → (n ≡ m) × (l ≡ k)
 key-told n l m k p q e = (omega arith, omega arith)
@@ -107,7 +99,7 @@ unfolding sameStep
 key-same a b s t =
     same-test (eqb (keyOf a) (keyOf b)) (eqb (a .name) (b .name) && eqb (a .label) (b .label))
     (λ h.
-    let u = key-told (a .name) (a .label) (b .name) (b .label) (step-range a s .2) (step-range b t .2) (eqb-yes h) in
+    let u = key-told (a .name) (a .label) (b .name) (b .label) (step-ranges a s .2) (step-ranges b t .2) (eqb-yes h) in
     both (eqb (a .name) (b .name)) (eqb (a .label) (b .label)) (yes-eqb (u .0)) (yes-eqb (u .1)))
     (λ h.
     let n : a .name ≡ b .name = eqb-yes (and-l (eqb (a .name) (b .name)) (eqb (a .label) (b .label)) h) in

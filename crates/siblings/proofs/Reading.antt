@@ -13,6 +13,7 @@ use Rattle.model.specs.Lists.{any}
 use Rattle.model.specs.Path.{Step}
 use Rattle.model.specs.Text.{ascii, decimal, isDigit}
 use Rattle.model.specs.Xml.{endTag}
+use Rattle.model.proofs.Paths.{step-ranges}
 use Rattle.model.proofs.Tagging.{start-text}
 use Rattle.model.proofs.Sending.{xml-element, end-text}
 use Rattle.scan.specs.Text.{begins}
@@ -22,7 +23,7 @@ use Rattle.scan.specs.declared.numbers.Number.the-variants as number
 use Rattle.scan.proofs.Numerals.{numbered-unique, decimal-begins}
 use Rattle.siblings.specs.Keys.{Opens, KeyAt}
 use Rattle.siblings.specs.declared.keys.KeyRead.the-variants as key
-use Rattle.siblings.proofs.Distinct.{any-append, step-range}
+use Rattle.siblings.proofs.Distinct.{any-append}
 
 -- ---- a key among others
 
@@ -90,7 +91,7 @@ module _ (l : List ℕ) (at : ℕ) where
       let t = opens-tag (drop at l) a o in (
         t .0,
         long-there l at 2 (ascii "<e" ++ (decimal (a .name) ++ labelled a (t .0))) (omega arith) (t .1),
-        record { small = step-range a (o .valid) .1; ends = tt; same = sym (drop-drop 2 at l) ∙ ap (drop 2) (t .1) },
+        record { small = step-ranges a (o .valid) .1; ends = tt; same = sym (drop-drop 2 at l) ∙ ap (drop 2) (t .1) },
       )
 
   -- there is no room for <e
@@ -118,7 +119,7 @@ module _ (l : List ℕ) (at : ℕ) where
             t .0,
             u .0,
             long-there l gap 8 (labelled a (t .0)) (omega arith) (u .1),
-            record { small = step-range a (o .valid) .2; ends = tt; same = sym (drop-drop 8 gap l) ∙ ap (drop 8) (u .1) },
+            record { small = step-ranges a (o .valid) .2; ends = tt; same = sym (drop-drop 8 gap l) ∙ ap (drop 8) (u .1) },
           )
 
       -- there is no room for a label

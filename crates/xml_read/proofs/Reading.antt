@@ -9,7 +9,6 @@ use lib.ListN.{length, drop, length-append, length-drop, drop-of-length-le}
 use lib.Dec.{T, eqb, leb}
 use mir.Facts.{eqb-yes, yes-eqb, leb-yes, leb-no}
 use borrow.Author.Tests.{not-false, not-true}
-use Rattle.model.specs.Label.{isLabel}
 use Rattle.model.specs.Path.{Step, validStep}
 use Rattle.model.specs.Value.{Content}
 use Rattle.model.specs.Text.{ascii}
@@ -17,6 +16,7 @@ use Rattle.model.specs.Tree.{Forest, empty, element}
 use Rattle.model.specs.Xml.{startTag, endTag, contentXml, xml}
 use Rattle.model.specs.Intake.{siblings, differ, inForm, ownLive, isOne, Sends}
 use Rattle.model.proofs.Bools.{and-l, and-r, both, decide}
+use Rattle.model.proofs.Paths.{step-ranges}
 use Rattle.model.proofs.Sending.{onto, xml-onto, xml-element, siblings-onto, form-onto, ElementForm, form-parts, parts-form, endsInside, ends-opens, end-tag-ends, xml-opens, rest-unique, contents-unique, tree-unique}
 use Rattle.scan.specs.Text.{begins, isFront}
 use Rattle.scan.proofs.Goings.{neither}
@@ -107,8 +107,7 @@ module _ (l : List ℕ) (at d s : ℕ) where
 
       -- the name is one that a step may have
       pub head-name : h .name ≤ 65535
-      unfolding validStep
-      head-name = leb-yes (and-r (leb 1 (h .name)) (leb (h .name) 65535) (and-l (leb 1 (h .name) && leb (h .name) 65535) (isLabel (h .label)) (head-read .2 .2 .valid)))
+      head-name = step-ranges (headStep h) (head-read .2 .2 .valid) .1
 
       -- what follows it, if an element stands there
       behind-head : (a : Step) (c : Option Content) (i : Forest) (r : List ℕ) → T (inForm d (one a c i)) → drop at l ≡ xml (one a c i) ++ r
@@ -418,6 +417,7 @@ module _ (d s : ℕ) (l hs ps hs' ps' : List ℕ) {x : TreeRead} (read : TreeAt 
                     ∙ ap (λ (y : List ℕ). xml (one (treeStep t) (whole-read .content) (whole-read .inside)) ++ y) (drop-of-length-le l {i = t .next} h)
                     ∙ append-nil (xml (one (treeStep t) (whole-read .content) (whole-read .inside)));
               };
+          ends = let w : t .next ≤ length l = whole-read .within in omega arith;
           step = refl;
           counts = whole-read .counts;
           own = whole-read .own;

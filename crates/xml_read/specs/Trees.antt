@@ -98,10 +98,11 @@ PartAt l at d s w part.None =
 
 -- ---- a whole text
 
--- the tree that a text sends, its step, how many elements it has, whether each is live and of the label, and the marks of the first of them
+-- the tree that a text sends to its end, its step, how many elements it has, whether each is live and of the label, and the marks of the first of them
 pub record Sent (d s : ℕ) (l heads places : List ℕ) (t : Tree) : Type 0 where
   pub trees : Forest
   pub sends : Sends d l trees
+  pub ends : t .next ≡ length l
   pub step : siblings trees ≡ record { name = t .name; label = t .label } ∷ []
   pub counts : t .count ≡ size trees
   pub own : t .own ≡ ownLive s trees

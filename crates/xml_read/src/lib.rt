@@ -1,6 +1,6 @@
-// A tree read from a text. An element and the elements inside it are read by functions that call each other, at most six elements deep;
-// nothing is kept of the text but, of each element that is being read, the keys of the first 32 elements inside it, and of the first 32 elements
-// of all what is needed to put them in.
+// A tree read from a text. An element and the elements inside it are read by functions that call each other, at most six elements deep.
+// Kept are a value while it is read, the keys of the first 32 elements inside each that is open, and of the first 32 elements of all what
+// is needed to put them in.
 
 use scan_tag::EndRead;
 use scan_tag::TagRead;

@@ -1,7 +1,7 @@
 -- `add`: known for more than 32, asked of the text at 32; below, its key is among those kept or is put to them.
 use native.Mathlib.Omega.{arith}
 use borrow.Author.Needs.{needs}
-use Rattle.siblings.proofs.Distinct.{step-range}
+use Rattle.model.proofs.Paths.{step-ranges}
 use Rattle.siblings.proofs.Adding.{added-over, added-asked, added-clash, added-kept}
 use Rattle.siblings.proofs.add.Statement.{statement}
 use Rattle.siblings.proofs.add.Tie as tie
@@ -14,7 +14,7 @@ add-spec =
     (λ c. search needs)  -- differ-at-requires
     (λ c. added-asked _ _ _ _ (record { name = _; label = _ }) (c .before .before .before .before .pre .1) (c .before .if2 .taken) _ (c .differ-at .ensures))  -- returns-2
     -- key-of-requires
-    (λ c κs. let a = c .before .before .before in let r = step-range (record { name = a .args .name; label = a .args .label }) (a .pre .1) in (r .1, r .2))
+    (λ c κs. let a = c .before .before .before in let r = step-ranges (record { name = a .args .name; label = a .args .label }) (a .pre .1) in (r .1, r .2))
     (λ c κs. omega (arith, c .is-kept-arg2 .given .0))  -- is-kept-requires
     -- returns-3
     (λ c.
