@@ -111,12 +111,14 @@ enum {
     DOSSIER_REFUSED_VALUE = 5,
     /* Insert, update, delete: the path's last label is not the subject's. */
     DOSSIER_REFUSED_OTHER_LABEL = 6,
-    /* View: the path is not in view. Insert, XML intake: the parent is not in view. Update, delete: the element is not live.
-     * Grade: either path is not in view. */
+    /* View: the path is not in view. Insert: a step behind the longest prefix of the path that is in view does not bear the
+     * subject's label. XML intake: the parent is not in view. Update, delete: the element is not live. Grade: either path is not
+     * in view. */
     DOSSIER_REFUSED_ABSENT = 7,
     /* Insert: the element is live. XML intake: the top element is. */
     DOSSIER_REFUSED_LIVE = 8,
-    /* Insert: the subject's partition holds 32 elements. XML intake: with those of the text it would hold more. */
+    /* The subject's partition would hold more than 32 elements. Insert: with the element and its missing groups. XML intake: with
+     * the elements of the text. */
     DOSSIER_REFUSED_FULL = 9,
     /* View: the output is shorter than the listing or the XML. */
     DOSSIER_REFUSED_OUTPUT_SHORT = 10,
@@ -165,8 +167,13 @@ struct dossier_answer dossier_view(const uint8_t *store, size_t store_length, ui
 struct dossier_answer dossier_view_xml(const uint8_t *store, size_t store_length, uint32_t subject, const uint8_t *path,
                                        size_t path_length, uint8_t *output, size_t output_length);
 
-/* Makes one live element with a value. Its parent must be in view; a removed one will do. Count: 0.
- * Only the subject's partition is written. */
+/* Makes one live element with a value, and the missing groups above it. Count: how many groups were made. Only the subject's
+ * partition is written.
+ *
+ * Where the parent is in view, be it removed, no group is missing and the count is 0. Else take the longest prefix of the path that
+ * is in view; the root always is. Each longer prefix of the path, but for the path itself, is a missing group: it is made with kind
+ * 0 and no value. Every step behind the longest prefix in view must bear the subject's label, else the number is 7. The groups and
+ * the element are made all or none: where they have no room together, the number is 9. No other call makes missing groups. */
 struct dossier_answer dossier_insert(uint8_t *store, size_t store_length, uint32_t subject, const uint8_t *path,
                                      size_t path_length, uint32_t kind, const uint8_t *value, size_t value_length);
 

@@ -158,9 +158,9 @@ def hold(given, fixed):
     assert given == fixed, (records[-1], given, fixed)
 
 
-def insert(subject, where, value, number, size=STORE):
-    """An insert; its count is 0."""
-    hold(record("I", path(where), value[1], subject, value[0], size), (number, 0, b""))
+def insert(subject, where, value, number, count=0, size=STORE):
+    """An insert; its count is how many groups it makes."""
+    hold(record("I", path(where), value[1], subject, value[0], size), (number, count, b""))
 
 
 def update(subject, where, value, number, count=0, size=STORE):
@@ -272,7 +272,7 @@ def show():
 def every_call(number, subject, where, value=G, size=STORE):
     """All seven calls are refused with one number, one that comes before 8, 12 and 13: of an even grade the other path is the
     root's, and an XML intake, below the path, brings a group of the subject's label."""
-    insert(subject, where, value, number, size)
+    insert(subject, where, value, number, 0, size)
     update(subject, where, value, number, 0, size)
     delete(subject, where, number, 0, size)
     view(subject, where, 100, number, 0, (), size)
@@ -404,11 +404,12 @@ def path_lengths():
     insert(0, "10:0", G, 0)
     for n in (1, 2, 4, 19, 20, 21, 24, 189, 255):
         every_call(4, 0, steps[:n])
-    insert(0, steps[:18], G, 7)
     update(0, steps[:18], G, 7)
     delete(0, steps[:18], 7)
     view(0, steps[:18], 100, 7)
     markup(0, steps[:18], 100, 7)
+    insert(0, steps[:18], G, 0, 4)
+    delete(0, steps[:6], 0, 5)
     then("no step")
     insert(0, "/", G, 4)
     update(0, "/", G, 4)
@@ -495,7 +496,7 @@ def full():
     insert(0, "0:0", G, 4)
     then("full and live, full and the parent not in view")
     insert(0, "32:0", G, 8)
-    insert(0, "33:0/1:0", G, 7)
+    insert(0, "33:0/1:0", G, 9)
     insert(16, "33:0/1:16", G, 7)
     insert(16, "33:16", G, 0)
     insert(16, "32:0/33:16", G, 0)
@@ -557,7 +558,7 @@ def higher_version():
     lines = ["VIEW→24→5", "1→10→0→P→T→low", "2→20→0→P→G→-", "2→20→16→P→G→-", "2→20→24→P→G→-", "1→10→16→P→T→high"]
     view(24, "/", 100, 0, 83, lines)
     insert(16, "10:16/20:16", G, 0)
-    insert(24, "10:24/20:24", G, 7)
+    insert(24, "10:24/20:24", G, 0, 1)
 
 
 @case("an update of an element whose parent is removed")
@@ -570,9 +571,10 @@ def parent_removed():
     insert(16, "10:0/21:16", M(3), 0)
     lines = ["VIEW→16→4", "1→10→0→R→-→-", "2→20→16→P→M→2", "3→30→16→P→M→4", "2→21→16→P→M→3"]
     view(16, "/", 100, 0, 65, lines)
-    insert(0, "10:0/22:0", G, 7)
     update(0, "10:0", G, 7)
     delete(0, "10:0", 7)
+    insert(0, "10:0/22:0", G, 0, 1)
+    delete(0, "10:0", 0, 2)
     then("the mark vanishes with the last live element below it")
     delete(16, "10:0/21:16", 0, 1)
     view(16, "10:0", 100, 0, 51, ["VIEW→16→3", "1→10→0→R→-→-", "2→20→16→P→M→2", "3→30→16→P→M→4"])
@@ -601,7 +603,8 @@ def below_of_one_label():
     view(16, "/", 100, 0, 77, lines)
     view(16, "10:0/20:0", 100, 0, 37, ["VIEW→16→2", "2→20→0→R→-→-", "3→30→16→P→G→-"])
     view(0, "/", 100, 0, 22, ["VIEW→0→1", "1→11→0→P→G→-"])
-    insert(0, "10:0/20:0", G, 7)
+    insert(0, "10:0/20:0", G, 0, 1)
+    delete(0, "10:0", 0, 2)
     insert(16, "10:0/20:0/31:16", G, 0)
     delete(16, "10:0/20:0/30:16", 0, 1)
     delete(16, "10:0/20:0/30:16", 7)
@@ -1783,6 +1786,329 @@ def intake_barred():
 
 
 # ---------------------------------------------------------------------------------------------------------------------
+# Missing groups: document 02's request 6/14.
+
+SIX = "1:0/2:0/3:0/4:0/5:0/6:0"
+
+
+def first_steps(text, n):
+    """The first n steps of a path."""
+    return "/".join(text.split("/")[:n])
+
+
+def held(label, n):
+    """How many elements a partition holds."""
+    hold(buffer[PARTITION * label], n)
+
+
+def refuse(subject, where, number, n, value=G):
+    """An insert that is refused: the store keeps its bytes, and the subject's partition holds n elements."""
+    before = bytes(buffer)
+    insert(subject, where, value, number)
+    hold(bytes(buffer), before)
+    held(subject, n)
+
+
+@case("inserts that make the missing groups")
+def missing_groups():
+    insert(0, "10:0/20:0/30:0", M(1), 0, 2)
+    view(0, "/", 48, 0, 48, ["VIEW→0→3", "1→10→0→P→G→-", "2→20→0→P→G→-", "3→30→0→P→M→1"])
+    show()
+    insert(0, "10:0/20:0/30:0", M(1), 8)
+    insert(16, "10:0/21:16/22:16/23:16", M(1), 0, 2)
+    refuse(16, "10:0/24:0/25:16", 7, 3, M(1))
+    refuse(16, "11:8/12:16", 7, 3, M(1))
+    insert(16, "12:16", M(1), 0)
+    insert(16, "12:16/1:16/2:16/3:16/4:16/5:16", M(1), 0, 4)
+    lines = ["VIEW→16→6", "1→12→16→P→M→1", "2→1→16→P→G→-", "3→2→16→P→G→-", "4→3→16→P→G→-", "5→4→16→P→G→-", "6→5→16→P→M→1"]
+    view(16, "12:16", 100, 0, 89, lines)
+    show()
+    then("10:0 is removed: in view of 16, and not of 0")
+    delete(0, "10:0", 0, 3)
+    insert(16, "10:0/21:16/40:16", M(1), 0)
+    lines = ["VIEW→16→5", "1→10→0→R→-→-", "2→21→16→P→G→-", "3→22→16→P→G→-", "4→23→16→P→M→1", "3→40→16→P→M→1"]
+    view(16, "10:0", 100, 0, 79, lines)
+    insert(0, "10:0/50:0/51:0", M(1), 0, 2)
+    view(0, "/", 100, 0, 48, ["VIEW→0→3", "1→10→0→P→G→-", "2→50→0→P→G→-", "3→51→0→P→M→1"])
+    show()
+    then("a partition of 30 elements")
+    for n in range(100, 120):
+        insert(16, "%d:16" % n, G, 0)
+    held(16, 30)
+    refuse(16, "200:16/1:16/2:16", 9, 30)
+    refuse(16, "201:16/1:16/2:16", 9, 30)
+    show()
+    delete(16, "119:16", 0, 1)
+    insert(16, "203:16/1:16", G, 0, 1)
+    insert(16, "202:16", G, 0)
+    held(16, 32)
+    refuse(16, "204:16", 9, 32)
+    show()
+
+
+@case("six steps of one label onto an empty store")
+def six_made():
+    insert(0, SIX, T("SLEEVE"), 0, 5)
+    lines = ["1→1→0→P→G→-", "2→2→0→P→G→-", "3→3→0→P→G→-", "4→4→0→P→G→-", "5→5→0→P→G→-", "6→6→0→P→T→SLEEVE"]
+    view(0, "/", 86, 0, 86, ["VIEW→0→6"] + lines)
+    show()
+    then("0 to 5 groups are missing")
+    for n in range(6, 0, -1):
+        delete(0, first_steps(SIX, n), 0, 7 - n)
+        insert(0, SIX, M(n), 0, 6 - n)
+        insert(0, SIX, M(n), 8)
+        view_lines(0, "/", 6)
+    view(0, SIX, 100, 0, 21, ["VIEW→0→1", "6→6→0→P→M→1"])
+    delete(0, "1:0", 0, 6)
+    show()
+    then("a path of 2 to 6 steps onto an empty store")
+    for n in range(2, 7):
+        insert(0, first_steps(SIX, n), T("x"), 0, n - 1)
+        show()
+        delete(0, "1:0", 0, n)
+    then("six steps of labels 1, 3 and 7, of which the lower are live")
+    insert(1, "1:1", G, 0)
+    insert(3, "1:1/2:3/3:3", M(3), 0, 1)
+    insert(7, "1:1/2:3/3:3/4:7/5:7/6:7", M(7), 0, 2)
+    lines = ["1→1→1→P→G→-", "2→2→3→P→G→-", "3→3→3→P→M→3", "4→4→7→P→G→-", "5→5→7→P→G→-", "6→6→7→P→M→7"]
+    view(7, "/", 100, 0, 81, ["VIEW→7→6"] + lines)
+    show()
+
+
+@case("a group that is made has no value")
+def made_content():
+    insert(0, "1:0/2:0", T("SLEEVE LEFT HAND"), 0, 1)
+    insert(0, "3:0/4:0", M(-1), 0, 1)
+    insert(0, "5:0/6:0", G, 0, 1)
+    lines = ["1→1→0→P→G→-", "2→2→0→P→T→SLEEVE LEFT HAND", "1→3→0→P→G→-", "2→4→0→P→M→-1", "1→5→0→P→G→-", "2→6→0→P→G→-"]
+    view(0, "/", 200, 0, 97, ["VIEW→0→6"] + lines)
+    inside = [e(1, 0, "G", e(2, 0, "T", "SLEEVE LEFT HAND")), e(3, 0, "G", e(4, 0, "M", "-1")), e(5, 0, "G", e(6, 0, "G"))]
+    markup_of(0, "/", *inside)
+    show()
+    then("it is an element as others are")
+    insert(0, "1:0", G, 8)
+    update(0, "1:0", T("PIECE"), 0, 1)
+    grade(0, "3:0", "3:0/4:0", 2, 12)
+    update(0, "3:0", M(7), 0, 1)
+    grade(0, "3:0", "3:0/4:0", 3, 0, -3, 1)
+    insert(16, "5:0/7:16/8:16", M(8), 0, 1)
+    delete(0, "5:0", 0, 2)
+    view(16, "5:0", 100, 0, 48, ["VIEW→16→3", "1→5→0→R→-→-", "2→7→16→P→G→-", "3→8→16→P→M→8"])
+    delete(16, "5:0/7:16", 0, 2)
+    view(16, "5:0", 100, 7)
+    show()
+
+
+@case("groups made among elements that are there")
+def made_among():
+    put(0, ("5:0", G), ("10:0", T("A")), ("10:0/5:0", M(5)), ("10:0/5:0/1:0", G), ("10:0/20:0", M(20)), ("11:0", T("Z")))
+    insert(0, "10:0/7:0/8:0/9:0", T("nine"), 0, 2)
+    show()
+    insert(0, "1:0/1:0/1:0", T("first"), 0, 2)
+    insert(0, "65535:0/65535:0", T("last"), 0, 1)
+    insert(0, "10:0/5:0/1:0/2:0/3:0", T("three"), 0, 1)
+    lines = ["1→1→0→P→G→-", "2→1→0→P→G→-", "3→1→0→P→T→first", "1→5→0→P→G→-", "1→10→0→P→T→A", "2→5→0→P→M→5", "3→1→0→P→G→-"]
+    lines += ["4→2→0→P→G→-", "5→3→0→P→T→three", "2→7→0→P→G→-", "3→8→0→P→G→-", "4→9→0→P→T→nine", "2→20→0→P→M→20"]
+    lines += ["1→11→0→P→T→Z", "1→65535→0→P→G→-", "2→65535→0→P→T→last"]
+    view(0, "/", 300, 0, 228, ["VIEW→0→16"] + lines)
+    show()
+    then("names 255, 256 and 257")
+    put(0, ("255:0", G), ("255:0/255:0", G), ("257:0", G))
+    insert(0, "256:0/257:0/255:0", G, 0, 2)
+    insert(0, "255:0/256:0/1:0", G, 0, 1)
+    show()
+    then("versions under one name: of 0, 9, 16 and 25")
+    put(0, ("10:0", G), ("10:0/10:0", G))
+    put(9)
+    put(16, ("10:16", G), ("10:16/10:16", G))
+    put(25, ("10:25", G))
+    insert(9, "10:9/10:9/10:9", M(9), 0, 2)
+    insert(16, "10:0/10:16/10:16", M(16), 0, 1)
+    insert(25, "10:9/10:25/10:25", M(25), 0, 1)
+    insert(25, "10:16/10:25/10:25", M(25), 0, 1)
+    view_lines(25, "/", 14)
+    show()
+
+
+@case("7: a missing step of another label")
+def missing_foreign():
+    refuse(16, "10:0/20:16", 7, 0)
+    refuse(16, "10:0/20:16/30:16/40:16/50:16/60:16", 7, 0, M(1))
+    refuse(16, "10:0/20:0/30:0/40:0/50:0/60:16", 7, 0, T("x"))
+    refuse(16, "10:8/20:8/30:16/40:16", 7, 0)
+    insert(0, "10:0", G, 0)
+    refuse(16, "10:0/20:8/30:16/40:16", 7, 0)
+    refuse(16, "10:0/20:0/30:16", 7, 0)
+    refuse(16, "10:8/20:16/30:16", 7, 0)
+    then("the step comes, by its own label")
+    insert(8, "10:0/20:8", G, 0)
+    insert(16, "10:0/20:8/30:16/40:16", G, 0, 1)
+    refuse(16, "10:0/21:8/30:16/40:16", 7, 2)
+    insert(8, "10:0/21:8/22:8/23:8", G, 0, 2)
+    insert(16, "10:0/21:8/22:8/24:16/25:16", G, 0, 1)
+    refuse(16, "10:0/21:8/22:8/23:8/26:8/27:16", 7, 4)
+    view_lines(16, "/", 9)
+    show()
+    then("steps of labels 9 and 16, for 25, and elements that a subject does not see")
+    refuse(25, "10:9/20:25/30:25", 7, 0)
+    insert(9, "10:9", G, 0)
+    insert(25, "10:9/20:25/30:25", G, 0, 1)
+    refuse(25, "10:16/20:25/30:25", 7, 2)
+    insert(16, "10:16/20:16", G, 0, 1)
+    insert(25, "10:16/20:16/30:25/40:25", G, 0, 1)
+    refuse(17, "10:1/20:17/30:17", 7, 0)
+    insert(17, "10:17/20:17", G, 0, 1)
+    show()
+    then("a full partition: 7 before 9, 8 before 9")
+    put(16, *(("%d:16" % n, G) for n in range(1, 33)))
+    refuse(16, "99:0/20:16/30:16", 7, 32)
+    refuse(16, "32:16", 8, 32)
+    refuse(16, "32:16/1:16/2:16", 9, 32)
+
+
+@case("a removed element is the longest prefix in view")
+def removed_prefix():
+    insert(0, "10:0", T("LOW"), 0)
+    insert(16, "10:0/20:16", M(1), 0)
+    delete(0, "10:0", 0, 1)
+    insert(16, "10:0/21:16/22:16/23:16", M(2), 0, 2)
+    lines = ["VIEW→16→5", "1→10→0→R→-→-", "2→20→16→P→M→1", "2→21→16→P→G→-", "3→22→16→P→G→-", "4→23→16→P→M→2"]
+    view(16, "/", 100, 0, 79, lines)
+    show()
+    then("24 sees it too, and 9 does not")
+    insert(24, "10:0/21:16/30:24/31:24", G, 0, 1)
+    refuse(9, "10:0/30:9/31:9", 7, 0)
+    then("for 0 it is missing, and is made")
+    insert(0, "10:0/40:0", M(4), 0, 1)
+    view(0, "/", 100, 0, 35, ["VIEW→0→2", "1→10→0→P→G→-", "2→40→0→P→M→4"])
+    view_lines(16, "10:0", 6)
+    insert(9, "10:0/30:9/31:9", G, 0, 1)
+    delete(0, "10:0", 0, 2)
+    then("the mark goes with the last live element below it")
+    delete(16, "10:0/20:16", 0, 1)
+    delete(16, "10:0/21:16", 0, 3)
+    refuse(16, "10:0/20:16/21:16", 7, 0)
+    insert(24, "10:0/21:16/32:24/33:24", G, 0, 1)
+    insert(9, "10:0/32:9/33:9", G, 0, 1)
+    show()
+    then("10:0/20:8/30:16 alone")
+    put(0)
+    put(9)
+    put(24)
+    put(16, ("10:0/20:8/30:16", G))
+    insert(16, "10:0/20:8/31:16/32:16", M(5), 0, 1)
+    insert(16, "10:0/21:16/32:16", M(6), 0, 1)
+    refuse(16, "10:0/21:8/32:16", 7, 5)
+    refuse(8, "10:0/20:8/22:8", 7, 0)
+    insert(0, "10:0/20:0", G, 0, 1)
+    insert(8, "10:0/20:8/22:8", G, 0, 1)
+    show()
+
+
+@case("9: room for the element, and not for the missing groups")
+def missing_room():
+    for missing in range(1, 6):
+        where = first_steps("200:16/1:16/2:16/3:16/4:16/5:16", missing + 1)
+        then("%d missing, and room for as many" % missing)
+        put(16, *(("%d:16" % n, G) for n in range(1, 33 - missing)))
+        refuse(16, where, 9, 32 - missing, M(missing))
+        show()
+        then("%d missing, and room for one more" % missing)
+        put(16, *(("%d:16" % n, G) for n in range(1, 32 - missing)))
+        insert(16, where, M(missing), 0, missing)
+        held(16, 32)
+        show()
+    then("one group fewer is missing")
+    put(16, *(("%d:16" % n, G) for n in range(1, 30)))
+    refuse(16, "200:16/1:16/2:16/3:16", 9, 29)
+    insert(16, "200:16", G, 0)
+    refuse(16, "200:16/1:16/2:16/3:16", 9, 30)
+    insert(16, "200:16/1:16", G, 0)
+    refuse(16, "200:16/1:16/2:16/3:16", 9, 31)
+    refuse(16, "200:16/1:16/2:16/3:16", 9, 31, T("x"))
+    insert(16, "200:16/1:16/2:16", G, 0)
+    refuse(16, "200:16/1:16/2:16/3:16", 9, 32)
+    delete(16, "1:16", 0, 1)
+    insert(16, "200:16/1:16/2:16/3:16", G, 0)
+    then("the partitions below and above are of no account")
+    put(0, *(("%d:0" % n, G) for n in range(1, 33)))
+    put(24, *(("%d:24" % n, G) for n in range(1, 33)))
+    put(16)
+    insert(16, "32:0/1:16/2:16/3:16", G, 0, 2)
+    refuse(0, "33:0/1:0", 9, 32)
+    refuse(24, "32:0/1:24/2:24", 9, 32)
+    show()
+
+
+@case("neither an update nor an XML intake makes groups")
+def no_groups_made():
+    update(0, "10:0/20:0", M(1), 7)
+    intake(0, "10:0", e(20, 0, "G"), 7)
+    intake(0, "10:0/20:0", e(30, 0, "M", "1"), 7)
+    delete(0, "10:0/20:0", 7)
+    insert(0, "11:0", G, 0)
+    update(0, "11:0/20:0/30:0", M(1), 7)
+    intake(0, "11:0/20:0", e(30, 0, "G"), 7)
+    insert(0, "11:0/20:0/30:0", M(1), 0, 1)
+    intake(0, "11:0/20:0", e(31, 0, "G"), 0, 1)
+    show()
+
+
+@case("2 to 6 before the missing groups")
+def before_missing():
+    every_call(4, 0, b"\1\0\0\1\0")
+    insert(40, "10:0/20:0", G, 2)
+    insert(0, "10:0/0:0/30:0", G, 4)
+    insert(16, "10:16/20:0/30:16", G, 4)
+    insert(0, SIX + "/7:0", G, 4)
+    insert(0, "10:0/20:0", T(""), 5)
+    insert(0, "10:0/20:0", (0, b"a"), 5)
+    insert(16, "10:0/20:0", G, 6)
+    insert(0, "10:16/20:16", G, 6)
+    insert(0, "10:0/20:0", G, 1, 0, STORE - 1)
+    corrupt(PARTITION * 16 + 1, b"\1")
+    insert(16, "10:16/20:16", G, 3)
+    insert(24, "10:24/20:24", G, 3)
+    insert(9, "10:9/20:9", G, 0, 1)
+    insert(0, "10:0/20:0", G, 0, 1)
+    show()
+
+
+@case("what 0 and 9 see and are answered as 16 makes groups")
+def made_unseen():
+    for name in ("alone", "as 16 makes groups"):
+        then(name)
+        put(0)
+        put(9)
+        high = name != "alone"
+        if high:
+            insert(16, "10:16/20:16/30:16", M(1), 0, 2)
+        insert(0, "10:0/20:0", M(1), 0, 1)
+        if high:
+            insert(16, "10:0/20:0/30:16/40:16", M(1), 0, 1)
+        insert(9, "10:0/20:0/30:9/40:9", M(1), 0, 1)
+        delete(0, "10:0", 0, 2)
+        if high:
+            insert(16, "10:0/20:0/30:16/50:16/60:16", M(1), 0, 1)
+        view(0, "/", 100, 0, 9, ["VIEW→0→0"])
+        view(9, "/", 100, 0, 61, ["VIEW→9→4", "1→10→0→R→-→-", "2→20→0→R→-→-", "3→30→9→P→G→-", "4→40→9→P→M→1"])
+        insert(0, "10:0/20:0", M(2), 0, 1)
+        insert(9, "10:0/21:0/30:9", M(1), 7)
+        insert(0, "10:0/21:0/22:0/23:0", M(1), 0, 2)
+        view(0, "/", 100, 0, 74, ["VIEW→0→5", "1→10→0→P→G→-", "2→20→0→P→M→2", "2→21→0→P→G→-", "3→22→0→P→G→-", "4→23→0→P→M→1"])
+    show()
+
+
+@case("groups made by each label")
+def made_by_each():
+    for label in range(32):
+        insert(label, "%d:%d/2:%d/3:%d" % (100 + label, label, label, label), M(label), 0, 2)
+    view_lines(31, "/", 96)
+    view_lines(0, "/", 3)
+    view(19, "117:17", 100, 0, 52, ["VIEW→19→3", "1→117→17→P→G→-", "2→2→17→P→G→-", "3→3→17→P→M→17"])
+
+
+# ---------------------------------------------------------------------------------------------------------------------
 # The table: each number on each call that can give it, and which comes first.
 
 
@@ -1885,18 +2211,18 @@ def refusal_6():
 
 @case("7: not in view, the parent not in view, not live")
 def refusal_7():
-    every_call(7, 0, "10:0/20:0")
+    every_call(7, 16, "10:0/20:16")
     view(0, "10:0", 100, 7)
     markup(0, "10:0", 100, 7)
     update(0, "10:0", G, 7)
     delete(0, "10:0", 7)
     insert(16, "10:16", G, 0)
-    every_call(7, 0, "10:0/20:0")
-    insert(0, "10:0/20:0/30:0", G, 7)
+    every_call(7, 16, "10:0/20:16")
+    insert(16, "10:0/20:0/30:16", G, 7)
     insert(16, "10:16/20:16", G, 0)
     insert(17, "10:16/20:16/30:17", G, 0)
     insert(17, "10:16/21:16/30:17", G, 7)
-    insert(9, "10:9/20:9", G, 7)
+    insert(9, "10:0/20:9", G, 7)
     view(0, "10:16", 100, 7)
     view(9, "10:16", 100, 7)
     markup(0, "10:16", 100, 7)
@@ -2059,28 +2385,29 @@ def counts():
 
 # ---------------------------------------------------------------------------------------------------------------------
 # Sequences of files, chosen by their names: between them they give every number but 1. With each, the SHA-256 of its last store.
-# Of those made before request 2/14 only such are chosen in which no update finds an element of its own label below its path.
+# Of those made before request 2/14 only such are chosen in which no update finds an element of its own label below its path, and of
+# those made before request 6/14 only such in which no insert misses groups of its own label.
 
 CHOSEN = {
     "sequence 4": "2302a893e21f076f50abd462a770ff26bddd0c64c2682551e8781022b7cdf349",
-    "sequence 9": "3bd69345f7dfd9f23d689fa0a2bfd6c8588de9eecde74a54cbdf6389e0590b5e",
-    "sequence 12": "660c2610b4586c22a878becb3ba3da2134a97685bc21a389a391c506611e2ea7",
-    "sequence 13": "ddcf9336406082fc0029a62ef7f7416845bb3ed251d12ebedf2b8101e49d8299",
-    "sequence 16": "c37d233190dd0afc3d61ccdc5ef82296e58f6da6a05155363865c9a4be91527c",
+    "sequence 5": "624d36a7d93222074f067382194e0bd739128e891a4feba713d50d17093d623a",
     "sequence 17": "27dc56f1b389e30f99ce94b90395593614b3cb582472c7249e99cfce09f9c1eb",
-    "sequence 19": "20f461c0a8d63da936e94800bd4bf62af5b98bd2ff8f75f80703e39c2360c1a0",
-    "sequence 1022 after request 1": "d5d1cf0d64209e98905d757f00eec257b237e92a5658e78074b25a5b842cc06d",
-    "sequence 2072 after request 2": "d0ed54f4b04ab8be0b80b8a4d8d2b5147c17297b525389ae4b46fab87edc2081",
+    "sequence 1141 after request 1": "3aab6b71645abcbf62a3dab9a97494bcbbce8c7904c8956485224476a12ae349",
     "sequence 2122 after request 2": "0e94562524633c412211e0be427bb704c0616f306746ada7861b3f4b4e811597",
     "sequence 2140 after request 2": "f433a957ac4ea9606133aa7a0e282504f5e2e1d5c99e062c7d3a946b3e89af4d",
-    "sequence 2175 after request 2": "7ffe429095161c59f5ddc179f6deba8b1202f8183cbfbb30cd09c98ac3f68877",
-    "sequence 3048 after request 3": "fb1a38329836140bbfb21c96e8d24f2bc4b9f6858209f5219546327b745b2ca8",
+    "sequence 3082 after request 3": "eaa828cce3d140c06fe962740492a65b605ab3264b9a55f97da8d2f5c2164ff7",
     "sequence 3169 after request 3": "b0f4d08734f16eef5585286fd84fe023de125d33b32a84afc74f39579a9514a9",
     "sequence 3174 after request 3": "70eb0019a40b8fbe28da941efb5d97d1fcd2db1854dfda04dafa2f35de4b5149",
     "sequence 5084 after request 5": "001053794b7bd89a737ea2b06cfcd2d05c5ad6c3e22f90232583d8ffb6d28262",
     "sequence 5123 after request 5": "b0083b28a94750b34e37df0fdc82d892b7d3ba562208adda50e79caa58f53105",
+    "sequence 5214 after request 5": "ceac5da63c990b357165b314cd74105a51176ae19c17e341993115b86be48284",
     "sequence 5216 after request 5": "a692fc623e4281d3a5aabe38ef2976147c6dfb745a03ff1c08c07d0fa9a5e387",
     "sequence 5218 after request 5": "dd335b238ed78935b1f6df16aa0ea29b454c7353eeed83bb9bcb701a5daf80fb",
+    "sequence 6053 after request 6": "fe6dfbf3d4c41a06015b898db5e7f06995cfb8311736637cef496d91ccde6739",
+    "sequence 6188 after request 6": "ec104fbaef728093976f6d02874ee9c83666613f396361c436f7c16480698793",
+    "sequence 6191 after request 6": "fc2dd6bc53525ececc15ef51b94d4fabcc80a8483fe8948e991651019d61bf57",
+    "sequence 6213 after request 6": "b2daa4a828a229c4c4f2a47fa212ebe24edc29880c5608765b13ebcdac87eebe",
+    "sequence 6232 after request 6": "e4ffc8d59baffb1c3416ab78e44b658b8e27c1646214c8fafe98f5b9e4d9fbfa",
 }
 
 

@@ -1,9 +1,9 @@
 """Documents 01 and 02 as a Python program, written from the documents alone: the reference that expected output comes from.
 
 It holds labels, paths, values, the bytes of slots, partitions and stores, what is in view, how it is listed, how it is written as
-XML and how such XML is read, and the seven calls on a model of the store: the four of document 01, Update as document 02's
-request 2/14 amends it, the view as XML of request 1/14, the even grade of request 3/14 and the XML intake of request 5/14. It
-shares no code with the crates, and runs by no part of them.
+XML and how such XML is read, and the seven calls on a model of the store: the four of document 01, Update and Insert as document
+02's requests 2/14 and 6/14 amend them, the view as XML of request 1/14, the even grade of request 3/14 and the XML intake of
+request 5/14. It shares no code with the crates, and runs by no part of them.
 """
 import re
 import struct
@@ -204,6 +204,14 @@ class Model:
         """Whether the path is in the subject's view; the root always is."""
         return path == () or path in self.in_view(subject)
 
+    def unseen(self, subject, path):
+        """The prefixes of the path, itself among them, that are not in the subject's view, the shortest first."""
+        return [path[:n] for n in range(1, len(path) + 1) if not self.sees(subject, path[:n])]
+
+    def missing(self, subject, path):
+        """The missing groups of an insert: the prefixes of the path, without itself, that are not in the subject's view."""
+        return self.unseen(subject, path[:-1])
+
     def is_live(self, path):
         """Whether the element is in the set of its label."""
         return path in self.parts[path[-1][1]]
@@ -250,13 +258,13 @@ class Model:
             return 6, path
         if op in "VM" and not self.sees(subject, path):
             return 7, path
-        if op == "I" and not self.sees(subject, path[:-1]):
+        if op == "I" and any(prefix[-1][1] != subject for prefix in self.unseen(subject, path)):
             return 7, path
         if op in "UD" and not self.is_live(path):
             return 7, path
         if op == "I" and self.is_live(path):
             return 8, path
-        if op == "I" and len(self.parts[subject]) == 32:
+        if op == "I" and len(self.parts[subject]) + len(self.missing(subject, path)) + 1 > 32:
             return 9, path
         return 0, path
 
@@ -270,8 +278,10 @@ class Model:
             return (10, 0, b"") if room < len(text) else (0, len(text), text)
         own = self.parts[subject]
         if op in "IU":
+            made = self.missing(subject, path) if op == "I" else []
+            own.update({group: (0, b"") for group in made})
             own[path] = (kind, bytes(value))
-            return 0, 1 if op == "U" else 0, b""
+            return 0, 1 if op == "U" else len(made), b""
         gone = [p for p in own if p[: len(path)] == path]
         for p in gone:
             del own[p]

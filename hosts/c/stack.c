@@ -1,6 +1,6 @@
 /* Measures the stack that the calls take, on the longest listing and the longest XML known: each label has 32 elements, each of
- * six steps, and those above it are removed wherever the label dominates another; each text is all & characters. XML intakes are
- * measured with the partition of label 31 empty. The last line is 'N passed, N failed'. */
+ * six steps, and those above it are removed wherever the label dominates another; each text is all & characters. XML intakes and
+ * an insert that makes groups are measured with the partition of label 31 empty. The last line is 'N passed, N failed'. */
 #define _XOPEN_SOURCE 700
 #include "dossier.h"
 
@@ -106,7 +106,8 @@ static int fill(void)
 }
 
 /* The calls that are measured: none, for what a thread takes itself, a view of all, one as XML, an update, a delete, an insert,
- * a grade between two measures, one between two removed elements, which is refused, and an XML intake of the text. */
+ * a grade between two measures, one between two removed elements, which is refused, an insert of six steps, and an XML intake of
+ * the text. */
 static void *no_call(void *unused)
 {
     return unused;
@@ -151,6 +152,12 @@ static void *call_grade(void *unused)
 static void *call_grade_removed(void *unused)
 {
     answer.number = dossier_grade(store, sizeof store, 31, path, STEP, other_path, STEP, 64).number;
+    return unused;
+}
+
+static void *call_insert_deep(void *unused)
+{
+    answer = dossier_insert(store, sizeof store, 31, path, sizeof path, DOSSIER_KIND_GROUP, path, 0);
     return unused;
 }
 
@@ -208,6 +215,12 @@ static int make_measures(void)
     return make_measure(FIRST_NAME) && done;
 }
 
+/* Empties the partition of label 31. */
+static void clear_highest(void)
+{
+    memset(store + 31 * DOSSIER_PARTITION_BYTES, 0, DOSSIER_PARTITION_BYTES);
+}
+
 /* Runs a call on a filled stack of its own: how many bytes of the stack are no longer as they were. */
 static size_t used(void *(*call)(void *))
 {
@@ -249,7 +262,13 @@ int main(void)
     check("two measures are there", make_measures());
     measure("grade", call_grade, DOSSIER_DONE, base, OTHER_MOST);
     measure("grade, refused", call_grade_removed, DOSSIER_REFUSED_NO_MEASURE, base, OTHER_MOST);
-    memset(store + 31 * DOSSIER_PARTITION_BYTES, 0, DOSSIER_PARTITION_BYTES);
+    clear_highest();
+    for (size_t at = 0; at <= ABOVE; at++) {
+        put_step(at, FIRST_NAME, 31);
+    }
+    measure("insert, groups made", call_insert_deep, DOSSIER_DONE, base, OTHER_MOST);
+    check("five groups are made", answer.count == ABOVE);
+    clear_highest();
     make_text(GROUPED);
     measure("XML intake, refused", call_insert_xml, DOSSIER_REFUSED_FULL, base, INTAKE_MOST);
     make_text(EACH / (ABOVE + 1) + 1);

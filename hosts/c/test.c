@@ -1,5 +1,5 @@
-/* Tests the C declarations: answers, listings, XML, what refusals leave untouched, what an update keeps, grades, and styles taken
- * in as XML. The last line is 'N passed, N failed'. */
+/* Tests the C declarations: answers, listings, XML, what refusals leave untouched, what an update keeps, missing groups, grades,
+ * and styles taken in as XML. The last line is 'N passed, N failed'. */
 #include "dossier.h"
 
 #include <stdio.h>
@@ -277,6 +277,47 @@ static void test_counts(void)
     check("the store is empty again", memcmp(store, kept, sizeof store) == 0);
 }
 
+/* Missing groups: an insert makes those of the subject's label and counts them. A missing step of another label is refused by 7. */
+static void test_groups(void)
+{
+    static const uint8_t made[] = {10, 0, 0, 20, 0, 0, 30, 0, 0};
+    static const uint8_t below[] = {10, 0, 0, 21, 0, 16, 22, 0, 16, 23, 0, 16};
+    static const uint8_t deep[] = {12, 0, 16, 1, 0, 16, 2, 0, 16, 3, 0, 16, 4, 0, 16, 5, 0, 16};
+    static const uint8_t other[] = {10, 0, 0, 24, 0, 0, 25, 0, 16, 26, 0, 16};
+    start();
+    done("two groups are made", insert(0, LENT(made), DOSSIER_KIND_MEASURE, LENT(measure)), 2);
+    sees("0 sees the groups", 0, "VIEW\t0\t3\n1\t10\t0\tP\tG\t-\n2\t20\t0\tP\tG\t-\n3\t30\t0\tP\tM\t-150\n");
+    done("two groups of 16 are made", insert(16, LENT(below), DOSSIER_KIND_MEASURE, LENT(measure)), 2);
+    done("five groups are made", insert_group(16, LENT(deep)), 5);
+    keep();
+    memset(output, FILL, sizeof output);
+    refused("8, with its groups", insert_group(16, LENT(deep)), 8);
+    refused("7, a missing step of another label", insert_group(16, LENT(other)), 7);
+    refused("7, an update makes no groups", update(0, LENT(p10_30_40), DOSSIER_KIND_GROUP, none, 0), 7);
+    refused("7, an XML intake makes no groups", insert_xml(0, LENT(p10_7), "<e4 label=\"0\" preserve=\"PRESENT\" kind=\"G\"></e4>"), 7);
+    done("a delete takes the groups", delete(0, LENT(p10)), 3);
+    done("a removed parent is in view", insert_group(16, LENT(p10_20)), 0);
+    done("the removed element is made", insert_group(0, LENT(p10_30)), 1);
+}
+
+/* 9: room for the element and not for its missing groups. */
+static void test_groups_room(void)
+{
+    static const uint8_t deep[] = {200, 0, 16, 1, 0, 16, 2, 0, 16};
+    uint8_t path[] = {0, 0, 16};
+    start();
+    for (path[0] = 1; path[0] <= 30; path[0]++) {
+        done("one of 30", insert_group(16, LENT(path)), 0);
+    }
+    keep();
+    refused("9, one more than there is room for", insert_group(16, LENT(deep)), 9);
+    done("one group is made", insert_group(16, deep, 6), 1);
+    keep();
+    refused("9, a full partition", insert_group(16, LENT(deep)), 9);
+    done("a delete", delete(16, LENT(p10_16)), 1);
+    done("the groups are there", insert_group(16, LENT(deep)), 0);
+}
+
 /* 1: a store of another length, whatever else is wrong. */
 static void test_store_length(void)
 {
@@ -384,7 +425,7 @@ static void test_place(void)
     keep();
     refused("7, view", view(0, LENT(p10), sizeof output), 7);
     refused("7, view as XML", view_xml(0, LENT(p10), sizeof output), 7);
-    refused("7, insert", insert_group(0, LENT(p10_30)), 7);
+    refused("7, insert", insert_group(16, LENT(p10_20)), 7);
     refused("7, update", update(0, LENT(p10), 0, none, 0), 7);
     refused("7, delete", delete(0, LENT(p10)), 7);
     done("insert 10:0", insert_group(0, LENT(p10)), 0);
@@ -612,6 +653,8 @@ int main(void)
     test_xml();
     test_update();
     test_counts();
+    test_groups();
+    test_groups_room();
     test_store_length();
     test_subject();
     test_not_well_formed();

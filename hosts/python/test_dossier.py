@@ -1,5 +1,5 @@
 """The calls through the module: document 01's example, every refusal, what is left untouched, what an update keeps, XML read
-back, grades, and styles taken in as XML.
+back, grades, styles taken in as XML, and missing groups.
 
     python3 hosts/python/test_dossier.py
 """
@@ -295,6 +295,22 @@ class Done(CallTest):
     def seen(self, store, subject):
         """What a subject sees of all, with a space for a tab and a semicolon for the end of a line."""
         return bytes(store.view(label(subject)).listing).decode().replace("\t", " ").replace("\n", ";")
+
+    def test_insert_makes_the_missing_groups(self):
+        store = Store()
+        self.assertEqual(store.insert(label(0), path((10, 0), (20, 0), (30, 0)), Measure(1)), 2)
+        self.assertEqual(self.seen(store, 0), "VIEW 0 3;1 10 0 P G -;2 20 0 P G -;3 30 0 P M 1;")
+        self.assert_raises_refusal(Refusal.LIVE, store.insert, label(0), path((10, 0), (20, 0), (30, 0)), Measure(1))
+        self.assertEqual(store.insert(label(16), path((10, 0), (21, 16), (22, 16), (23, 16)), Measure(1)), 2)
+        self.assertEqual(store.insert(label(16), path((12, 16)), Measure(1)), 0)
+        six = path((12, 16), (1, 16), (2, 16), (3, 16), (4, 16), (5, 16))
+        self.assertEqual(store.insert(label(16), six, Measure(1)), 4)
+        self.assertEqual(store.delete(label(16), path((12, 16))), 6)
+        self.assertEqual(store.insert(label(16), six, Measure(1)), 5)
+        self.assertEqual(store.delete(label(0), path((10, 0))), 3)
+        self.assertEqual(store.insert(label(16), path((10, 0), (21, 16), (40, 16)), Measure(1)), 0)
+        self.assertEqual(store.insert(label(0), path((10, 0), (50, 0), (51, 0)), Measure(1)), 2)
+        self.assertEqual(self.seen(store, 0), "VIEW 0 3;1 10 0 P G -;2 50 0 P G -;3 51 0 P M 1;")
 
     def test_update_keeps_what_is_below(self):
         store = nested(Group(), Group(), Group())
@@ -614,7 +630,7 @@ class Refusals(CallTest):
     def test_6_7_and_8_of_the_place(self):
         store = Store()
         self.assert_view_refused(7, store.buffer, 0, P10)
-        self.assert_writers_refused(7, store.buffer, 0, P10_30)
+        self.assert_writers_refused(7, store.buffer, 16, P10_20)
         store.insert(label(0), path((10, 0)), Group())
         store.insert(label(16), path((10, 16)), Group())
         self.assert_writers_refused(6, store.buffer, 16, P10)
@@ -630,6 +646,27 @@ class Refusals(CallTest):
         self.assertEqual(store.insert(label(16), path((33, 16)), Group()), 0)
         self.assertEqual(store.delete(label(0), path((10, 0))), 1)
         self.assertEqual(store.insert(label(0), path((33, 0)), Group()), 0)
+
+    def test_7_missing_step_of_another_label(self):
+        store = Store()
+        store.insert(label(0), path((10, 0)), Group())
+        for steps in (((11, 8), (12, 16)), ((10, 0), (24, 0), (25, 16)), ((10, 0), (24, 0), (25, 16), (26, 16))):
+            self.assert_raises_refusal(Refusal.ABSENT, store.insert, label(16), path(*steps), Group())
+        self.assert_refused(7, raw.insert, store.buffer, 16, b"\x0b\0\x08\x0c\0\x10", *GROUP)
+        self.assert_refused(7, raw.update, store.buffer, 0, P10_30, *GROUP)
+        self.assert_refused(7, raw.insert_xml, store.buffer, 0, P10_30, SENT)
+
+    def test_9_missing_groups_without_room(self):
+        store = Store()
+        for name in range(100, 130):
+            self.assertEqual(store.insert(label(16), path((name, 16)), Group()), 0)
+        before = bytes(store.buffer)
+        self.assert_raises_refusal(Refusal.FULL, store.insert, label(16), path((200, 16), (1, 16), (2, 16)), Group())
+        self.assertEqual(bytes(store.buffer), before)
+        self.assertEqual(store.delete(label(16), path((129, 16))), 1)
+        self.assertEqual(store.insert(label(16), path((203, 16), (1, 16)), Group()), 1)
+        self.assertEqual(store.insert(label(16), path((202, 16)), Group()), 0)
+        self.assert_raises_refusal(Refusal.FULL, store.insert, label(16), path((201, 16)), Group())
 
     def test_10_output_too_short(self):
         store = example().buffer

@@ -9,12 +9,17 @@ use lib.Seq.{take-all, take-at, length-take-le, drop-append-le}
 use Rattle.model.specs.Path.{Step, isPrefix, stepsOf}
 use Rattle.model.specs.Value.{Content}
 use Rattle.model.specs.Model.{openModel, ownSet}
-use Rattle.model.specs.Call.{Call, by, Op, subjectOf, view, insert, update, delete, extending, Result, count, graded, Told, counted, Outcome, refused, done, effect, writes, changes}
+use Rattle.model.specs.Call.{Call, by, Op, subjectOf, view, insert, update, delete, extending, Result, count, graded, Told, counted, Outcome, refused, done, opRows, effect, writes, changes, makes}
+use Rattle.model.specs.View.{visible}
+use Rattle.model.specs.Groups.{seenSteps, missingPaths}
+use Rattle.model.specs.Rows.{bringRows, placeRows}
 use Rattle.model.specs.Run.{answerOf, storeAfter}
 use Rattle.model.specs.Script.{contentOf, outputSpace}
 use Rattle.model.proofs.Sets.{length-keep}
 use Rattle.model.proofs.Keeps.{open-valid}
-use Rattle.model.proofs.Operations.{outcome-either}
+use Rattle.model.proofs.Rows.{passes-both}
+use Rattle.model.proofs.Groups.{rows-placed}
+use Rattle.model.proofs.Operations.{Admitted, outcome-either}
 use Rattle.model.proofs.Refusals.{answer-fits}
 use Rattle.octets.specs.Joined.{wordBytes}
 use Rattle.text.specs.Overlay.{overlay}
@@ -130,6 +135,13 @@ extending-few : (p : List Step) (s : ℕ) (b : List ℕ) → extending p (ownSet
 unfolding extending
 extending-few p s b = omega (arith, length-keep (λ e. isPrefix p (e .path)) (ownSet s (openModel b)), open-valid b s .few)
 
+-- an insert that is done made at most as many groups as a partition has slots
+groups-few : (s : ℕ) (p : List ℕ) (c : Content) (b : List ℕ) → Admitted (by s (insert p c)) (openModel b)
+    → length (missingPaths (seenSteps (visible s (openModel b)) (stepsOf p)) (stepsOf p)) ≤ 16384
+unfolding opRows subjectOf
+groups-few s p c b a =
+    omega (arith, rows-placed s (openModel b) (stepsOf p) (passes-both (bringRows p c) (placeRows s (openModel b) (stepsOf p)) (a .rows) .1) .free)
+
 -- a count of at most the output's room; no line asks for a grade
 abbrev pub Small : Result → Type 0
 Small (count n) = n ≤ 16384
@@ -137,13 +149,13 @@ Small (graded z r) = ⊥
 
 pub answer-small : (s : ℕ) (k : read.Call) (p l b : List ℕ)
     → Small (answerOf (by s (opOn k p l)) b .told .result) × (length (answerOf (by s (opOn k p l)) b .written) ≤ 16384)
-unfolding answerOf refused done effect writes changes subjectOf
+unfolding answerOf refused done effect writes changes makes subjectOf
 answer-small s read.the-variants.View p l b =
     let f : length (answerOf (by s (view p outputSpace)) b .written) ≤ outputSpace = answer-fits (by s (view p outputSpace)) b in
     (rw (view-count s p outputSpace b) f, f)
 answer-small s (read.the-variants.Insert v) p l b =
     outcome-either (by s (insert p (contentOf (valueOf v l)))) (openModel b) (λ (x : Outcome). Small (x .answer .told .result) × (length (x .answer .written) ≤ 16384))
-    (λ k. (omega arith, omega arith)) (λ a. (omega arith, omega arith))
+    (λ k. (omega arith, omega arith)) (λ a. (groups-few s p (contentOf (valueOf v l)) b a, omega arith))
 answer-small s (read.the-variants.Update v) p l b =
     outcome-either (by s (update p (contentOf (valueOf v l)))) (openModel b) (λ (x : Outcome). Small (x .answer .told .result) × (length (x .answer .written) ≤ 16384))
     (λ k. (omega arith, omega arith)) (λ a. (omega arith, omega arith))

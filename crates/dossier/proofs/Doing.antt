@@ -1,28 +1,36 @@
 -- What each operation has done, refused or not, from what its rows and the functions of the store say.
-use mathlib.Core.Path.{_≡_, refl}
+use mathlib.Core.Path.{_≡_, refl, ap, subst, _∙_}
 use mathlib.Core.Bool.{not}
 use mathlib.Core.List.{List, []}
-use Prim.Native.Nat.{ℕ, zero, suc, _≤_, _<_}
+use Prim.Native.Nat.{ℕ, zero, suc, _-_, _/_, _≤_, _<_}
 use native.Mathlib.Omega.{arith}
 use lib.ListN.{length}
 use lib.Dec.{T}
-use Rattle.model.specs.Path.{stepsOf}
-use Rattle.model.specs.Value.{Content, allowed, bringable}
+use Rattle.model.specs.Path.{validPath, stepsOf}
+use Rattle.model.specs.Value.{Content, allowed, storable, bringable}
 use Rattle.model.specs.Element.{remove}
 use Rattle.model.specs.Partition.{layout}
 use Rattle.model.specs.Store.{replace}
 use Rattle.model.specs.Model.{openModel, ownSet}
-use Rattle.model.specs.View.{listing}
+use Rattle.model.specs.View.{visible, listing}
+use Rattle.model.specs.Intake.{withAll}
+use Rattle.model.specs.Groups.{seenSteps, missingPaths, withGroups}
 use Rattle.model.specs.Rows.{rowCode, goodPath, pathRows, bringRows, ownLiveRows, placeRows}
-use Rattle.model.specs.Call.{view, insert, update, delete, opRows, counted, changes, extending, added, replaced, effect}
+use Rattle.model.specs.Call.{view, insert, update, delete, opRows, counted, changes, extending, makes, replaced, effect}
 use Rattle.model.proofs.Slots.{allowed-length}
 use Rattle.model.proofs.Rows.{Passes, passes-append, row-applies, rows-stop, rows-behind, rows-pass}
-use Rattle.model.proofs.Operations.{Brought, rows-brought, Placed, rows-placed}
-use Rattle.path.proofs.Steps.{good-path}
+use Rattle.model.proofs.Keeps.{open-valid}
+use Rattle.model.proofs.Groups as model
+use Rattle.model.proofs.Groups.{missing-count, Lacking, rows-placed, placed-lacking}
+use Rattle.model.proofs.Operations.{Brought, rows-brought, brought-valid}
+use Rattle.path.proofs.Steps.{length-steps, good-path}
 use Rattle.store.specs.Opened.{Opened, Vacant}
 use Rattle.table.specs.declared.own.Owned.{Owned}
 use Rattle.table.specs.declared.own.Owned.the-variants.{Refused, Slot}
+use Rattle.table.specs.declared.placing.Placed.{Placed}
+use Rattle.table.specs.declared.placing.Placed.the-variants as placed
 use Rattle.table.specs.Owned.{Owns}
+use Rattle.table.specs.Placed.{Places}
 use Rattle.table.proofs.Walking.{opened-own}
 use Rattle.table.proofs.Owning.{own-refused, own-passes}
 use Rattle.table.proofs.Looking.{Looks}
@@ -68,23 +76,54 @@ module _ (s : ℕ) (b p : List ℕ) (c : Content) (o : Opened b s) {j : ℕ} (f 
   unfolding opRows
   insert-stops h = acted-refused (insert p c) s b [] (o .formed) (rows-stop (bringRows p c) _ f h) h
 
-  module _ (y : j ≡ 0) {k : ℕ} (e : k ≡ rowCode (placeRows s (openModel b) (stepsOf p))) where
-    pub insert-misplaced : (k ≡ 0 → ⊥) → Acted (insert p c) s b [] (counted k 0) b []
+  module _ (y : j ≡ 0) (r : Placed) (d : Places r s b (stepsOf p)) where
+    pub insert-refused : {k : ℕ} → r ≡ placed.Refused k → Acted (insert p c) s b [] (counted k 0) b []
     unfolding opRows
-    insert-misplaced h = acted-refused (insert p c) s b [] (o .formed) (rows-behind (bringRows p c) _ (brought-passes p c f y) e) h
+    insert-refused e =
+        let q = subst (λ (x : Placed). Places x s b (stepsOf p)) e d in
+        acted-refused (insert p c) s b [] (o .formed) (rows-behind (bringRows p c) _ (brought-passes p c f y) (q .0)) (q .1)
 
-    module _ (z : k ≡ 0) where
-      placed : Passes (placeRows s (openModel b) (stepsOf p))
-      placed = rows-pass (placeRows s (openModel b) (stepsOf p)) tt e z
+    module _ {at n : ℕ} (e : r ≡ placed.At at n) where
+      -- the place, and how many steps are in view
+      found : Places (placed.At at n) s b (stepsOf p)
+      found = subst (λ (x : Placed). Places x s b (stepsOf p)) e d
 
-      pub insert-vacant : Vacant b s (stepsOf p)
+      placed-passes : Passes (placeRows s (openModel b) (stepsOf p))
+      placed-passes = rows-pass (placeRows s (openModel b) (stepsOf p)) tt (found .0) refl
+
+      rows-show : model.Placed s (openModel b) (stepsOf p)
+      rows-show = rows-placed s (openModel b) (stepsOf p) placed-passes
+
+      ok : T (validPath (stepsOf p)) × T (storable c)
+      ok = brought-valid (brought p c f y)
+
+      lacks : Lacking s (ownSet s (openModel b)) (stepsOf p) n
+      lacks = rw (found .2) (placed-lacking s (openModel b) (open-valid b) (stepsOf p) (ok .0) rows-show)
+
+      -- the groups are as many as the steps between
+      missing : length (missingPaths (seenSteps (visible s (openModel b)) (stepsOf p)) (stepsOf p)) ≡ length p / 3 - 1 - n
+      missing = missing-count (seenSteps (visible s (openModel b)) (stepsOf p)) (stepsOf p) ∙ rw (← (found .2), length-steps p)
+
+      pub insert-short : n < length p / 3
+      insert-short = omega (arith, lacks .short, length-steps p)
+
+      pub insert-vacant : Vacant b s (stepsOf p) at n c
       insert-vacant =
-          let q : Placed s (openModel b) (stepsOf p) = rows-placed s (openModel b) (stepsOf p) placed in
-          record { own = opened-own o; free = q .free; lacks = q .lacks }
+          record {
+            own = opened-own o;
+            lacking = lacks;
+            place = found .1;
+            content = ok .1;
+            room = omega (arith, rows-show .free, missing, length-steps p, lacks .short);
+          }
 
-      pub insert-done : {x : List ℕ} → x ≡ replace s (layout (added (stepsOf p) c (ownSet s (openModel b)))) b → Acted (insert p c) s b [] (counted 0 0) x []
-      unfolding opRows effect changes
-      insert-done g = acted-done (insert p c) s b [] (o .formed) (passes-append (bringRows p c) (placeRows s (openModel b) (stepsOf p)) (brought-passes p c f y) placed) refl g refl
+      pub insert-done : {x : List ℕ} → x ≡ replace s (layout (withAll (withGroups n (stepsOf p) c) (ownSet s (openModel b)))) b
+          → Acted (insert p c) s b [] (counted 0 (length p / 3 - 1 - n)) x []
+      unfolding opRows effect makes changes
+      insert-done g =
+          rw (← missing)
+          (acted-done (insert p c) s b [] (o .formed) (passes-append (bringRows p c) (placeRows s (openModel b) (stepsOf p)) (brought-passes p c f y) placed-passes) refl
+          (g ∙ ap (λ (k : ℕ). replace s (layout (withAll (withGroups k (stepsOf p) c) (ownSet s (openModel b)))) b) (found .2)) refl)
 
 -- ---- a delete
 

@@ -1,13 +1,14 @@
-// Insert: an element comes.
+// Insert: an element comes, with the groups that are missing above it.
 use crate::Answer;
 use table::Opening;
+use table::Placed;
 ghost use mathlib.Core.List.{[]};
 ghost use Rattle.model.specs.Call as calls;
 ghost use Rattle.model.specs.Call.{counted};
 ghost use Rattle.promise.specs.Did.{Acted, Inserted};
 ghost use Rattle.table.specs.Opening.{Lent};
 
-// Inserts an element into the subject's partition.
+// Inserts an element into the subject's partition: how many groups were made above it.
 pub fn insert(store: &mut [u8], subject: u32, path: &[u8], kind: u32, value: &[u8]) -> Answer
     ensures { λ r. ⌜ Inserted subject (now (path .entry)) kind (now (value .entry)) (now (store .entry)) (r .number) (r .count) (now (store .exit)) ⌝ }
 {
@@ -35,16 +36,14 @@ fn act(store: &mut [u8], label: u8, path: &[u8], kind: u32, value: &[u8]) -> Ans
             count: 0,
         };
     }
-    let placed = table::place_row(store, label, path);
-    if placed != 0 {
-        return Answer {
-            number: placed,
-            count: 0,
-        };
-    }
-    store::insert(store, label, path, kind as u8, value);
-    Answer {
-        number: 0,
-        count: 0,
+    match table::place(store, label, path) {
+        Placed::Refused(number) => Answer { number, count: 0 },
+        Placed::At(at, seen) => {
+            store::insert(store, label, at, path, seen, kind as u8, value);
+            Answer {
+                number: 0,
+                count: path.len() / 3 - 1 - seen,
+            }
+        }
     }
 }

@@ -16,13 +16,12 @@ use Rattle.model.specs.View.{inView}
 use Rattle.model.specs.Rows.{row}
 use Rattle.model.proofs.Bools.{or-l, is-true}
 use Rattle.model.proofs.Rows.{row-applies, rows-behind, rows-end}
-use Rattle.model.proofs.Keeps.{open-valid}
 use Rattle.model.proofs.Taking.{ends-longer}
 use Rattle.path.specs.Steps.{putStep}
 use Rattle.path.proofs.Buffers.{length-put, steps-put, steps-kept}
 use Rattle.partition.specs.Place.{Found}
 use Rattle.store.specs.Opened.{Opened}
-use Rattle.table.proofs.Walking.{told-yes, failed, held, found-live, counted}
+use Rattle.table.proofs.Walking.{told-yes, failed, held, found-live, counted, own-few}
 use Rattle.dossier_intake.specs.Taking.{TopPath, TreeRow}
 
 -- ---- the path
@@ -48,10 +47,6 @@ top-put p b name label w h s {x} {y} e f =
     }
 
 -- ---- rows 7 to 9
-
--- the own partition has at most 32 elements
-pub own-few : {s : ℕ} {b : List ℕ} (o : Opened b s) {x : List ℕ} (g : (x ≡ partition s b) × (length x ≡ partitionSize)) {c : ℕ} → (c ≡ count x) × (c < 256) → c ≤ 32
-own-few {s} {b} o g {c} k = let m : c ≡ length (ownSet s (openModel b)) = counted o g k in omega (arith, open-valid b s .few)
 
 module _ {s : ℕ} {b : List ℕ} (o : Opened b s) (p q : List ℕ) (n : ℕ) {v : Bool} (e : v ≡ inView s (openModel b) (stepsOf p)) where
   -- the parent is not in view

@@ -24,7 +24,8 @@ use Rattle.model.specs.Xml.{escaped, startTag, endTag, valueXml, outerTa
 use Rattle.model.specs.Intake.{elementsOf}
 use Rattle.model.specs.Grade.{wholeOf, measureAt}
 use Rattle.model.specs.Rows.{refusal, someRaw, goodPath, viewPath}
-use Rattle.model.specs.Call.{subjectOf, callerRows, opRows, table, Result, count as counts, graded, Answer, Outcome, writes, changes, extending, added, replaced, effect, refused, done, outcome, after}
+use Rattle.model.specs.Groups.{seenSteps, ownBehind, missingPaths, withGroups}
+use Rattle.model.specs.Call.{subjectOf, callerRows, opRows, table, Result, count as counts, graded, Answer, Outcome, writes, changes, extending, makes, replaced, effect, refused, done, outcome, after}
 use Rattle.model.specs.Run.{answerOf, storeAfter, corrupted, feed}
 use Rattle.model.specs.Script.{ScriptCall, stepText, callText, inRange, callOf, linesOf, unreadLine, answerLines, output}
 use Rattle.model.specs.Cases.{Expected, holds, Case, dominance, onStore, calls, script, storeAfterAll, AllHeld, Holds, markedCases, furtherCases, cases}
@@ -140,7 +141,8 @@ unfolding sameWhole sameResult sameAnswer emptyModel cases markedCases furtherCa
     pathBytes contentBytes slotBytes readPath readContent readSlot unusedZero layout slots readPartition wellFormedBy hasPartition
     partition replace isHeld elements openCell cellBytes openModel ownSet live decimal measureOf signed visible inView listed
     letter shown pathLine headLine listingOf listing shownBelow forest escaped startTag endTag valueXml outerTag document xmlOf
-    xmlView elementsOf wholeOf measureAt subjectOf refusal someRaw goodPath viewPath callerRows opRows table writes changes extending added replaced effect
+    xmlView elementsOf wholeOf measureAt subjectOf refusal someRaw goodPath viewPath callerRows opRows table writes changes extending makes replaced effect
+    seenSteps ownBehind missingPaths withGroups
     refused done outcome after answerOf storeAfter corrupted emptyStore callText inRange stepText callOf unreadLine answerLines
     isDigit callGuess stepGuess readable readLine
 tested = tt

@@ -1,14 +1,12 @@
 -- A subject's set stays valid under what calls do to it: count, elements, order, and the prefixes of the own label.
 use mathlib.Core.Path.{_≡_, sym, subst}
-use mathlib.Core.Logic.{_⊎_, inl, inr}
 use mathlib.Core.Bool.{not, cond}
 use mathlib.Core.List.{List, [], _∷_, List·Memᴰ·not-nil}
-use Prim.Native.Nat.{ℕ, _<_}
+use Prim.Native.Nat.{ℕ}
 use native.Mathlib.Omega.{arith}
-use lib.ListN.{length}
 use lib.Dec.{T}
 use Rattle.model.specs.Label.{labels, dominates}
-use Rattle.model.specs.Path.{Step, isPrefix, parent, endsIn, validPath, stepsOf, key}
+use Rattle.model.specs.Path.{Step, isPrefix, endsIn, validPath, stepsOf, key}
 use Rattle.model.specs.Value.{Content, allowed, storable, bringable}
 use Rattle.model.specs.Element.{Element, validElement, contains}
 use Rattle.model.specs.Partition.{readPartition, wellFormed}
@@ -16,14 +14,14 @@ use Rattle.model.specs.Store.{partition}
 use Rattle.model.specs.Model.{held, raw, elements, openCell, Model, openModel, ownSet}
 use Rattle.model.specs.View.{visible, inView}
 use Rattle.model.specs.Rows.{goodPath}
-use Rattle.model.specs.Call.{added, replaced}
+use Rattle.model.specs.Call.{replaced}
 use Rattle.model.specs.Lists.{_∈_}
 use Rattle.model.proofs.Bools.{and-l, and-r, both, decide, cond-yes, cond-no}
 use Rattle.model.proofs.Members.{all-in, any-in, gather-in, in-gather}
 use Rattle.model.proofs.Dominance.{in-labels, dominates-lower, dominates-trans, dominates-antisym}
-use Rattle.model.proofs.Paths.{prefix-refl, prefix-trans, prefix-parent, prefix-below}
+use Rattle.model.proofs.Paths.{prefix-refl, prefix-trans, prefix-below}
 use Rattle.model.proofs.Partitions.{ValidSet, well-formed, read-valid}
-use Rattle.model.proofs.Sets.{closed-facts, put-valid}
+use Rattle.model.proofs.Sets.{closed-facts}
 use Rattle.model.proofs.Replacing.{replaced-valid}
 
 -- each set of the model is valid for its label
@@ -117,16 +115,6 @@ element-valid s p c g t l =
     let k : T (allowed (c .kind) (c .value)) = t in
     search both
 
-module _ (s : ℕ) (m : Model) (sets : ValidSets m) where
-  pub insert-valid : (p : List Step) (c : Content) → T (validElement s (record { path = p; content = c })) → T (inView s m (parent p))
-      → T (not (contains (ownSet s m) p)) → length (ownSet s m) < 32 → ValidSet key s (added p c (ownSet s m))
-  unfolding added
-  insert-valid p c v iv nl room =
-      put-valid (record { path = p; content = c }) (ownSet s m) nl s (sets s) v room (λ q b t. near q (prefix-parent q p b) t)
-    where
-      near : (q : List Step) → (q ≡ p) ⊎ T (isPrefix q (parent p)) → T (endsIn s q) → (q ≡ p) ⊎ T (contains (ownSet s m) q)
-      near q (inl h) t = inl h
-      near q (inr h) t = inr (in-view-own s m (parent p) q sets iv h t)
-
-  pub update-valid : (p : List Step) (c : Content) → T (validElement s (record { path = p; content = c })) → ValidSet key s (replaced p c (ownSet s m))
-  update-valid p c v = replaced-valid s p c (ownSet s m) v (sets s)
+pub update-valid : (s : ℕ) (m : Model) → ValidSets m → (p : List Step) (c : Content) → T (validElement s (record { path = p; content = c }))
+    → ValidSet key s (replaced p c (ownSet s m))
+update-valid s m sets p c v = replaced-valid s p c (ownSet s m) v (sets s)

@@ -16,10 +16,12 @@ pub mod Rows
 pub mod Restriction
 pub mod Keeps
 pub mod Taking
+pub mod Groups
 pub mod Operations
 pub mod Noninterference
 pub mod Refusals
 pub mod Updates
+pub mod Making
 pub mod Intakes
 pub mod Hidden
 pub mod Marks

@@ -4,14 +4,14 @@ use mathlib.Core.Path.{_≡_, refl, sym, ap, ap₂, _∙_}
 use mathlib.Core.Bool.{not}
 use mathlib.Core.Option.{Option, none, some}
 use mathlib.Core.List.{List, [], _∷_, _++_}
-use Prim.Native.Nat.{ℕ, _≤_, _<_}
+use Prim.Native.Nat.{ℕ, _%_, _≤_}
 use native.Mathlib.Omega.{arith}
 use lib.ListN.{length}
 use lib.Dec.{T, eqb}
-use mir.Facts.{eqb-yes, ltb-no, leb-no}
+use mir.Facts.{eqb-yes, ltb-no}
 use Rattle.model.specs.Label.{isLabel}
-use Rattle.model.specs.Path.{Step, parent, endsIn, stepsOf, key}
-use Rattle.model.specs.Value.{Content, bringable}
+use Rattle.model.specs.Path.{Step, endsIn, validPath, stepsOf, key}
+use Rattle.model.specs.Value.{Content, storable, bringable}
 use Rattle.model.specs.Element.{Element, contains, remove}
 use Rattle.model.specs.Store.{storeSize}
 use Rattle.model.specs.Model.{Model, ownSet, live}
@@ -20,16 +20,18 @@ use Rattle.model.specs.Xml.{xmlOf, xmlView}
 use Rattle.model.specs.Tree.{Forest, entries}
 use Rattle.model.specs.Intake.{ownLive, elementsOf, withAll}
 use Rattle.model.specs.Grade.{isMeasure, measureAt}
+use Rattle.model.specs.Groups.{seenSteps, missingPaths, withGroups}
 use Rattle.model.specs.Rows.{Row, row, refusal, goodPath, someRaw, sizeRows, pathRows, viewPathRows, lookRows, bringRows, ownLiveRows, placeRows, roomRows, askedRows, sentRows}
 use Rattle.model.specs.Call.{Op, view, insert, update, delete, viewXml, grade, insertXml, Call, callSubject, callerRows, opRows, table}
-use Rattle.model.specs.Call.{Result, count, Effect, writes, changes, extending, added, replaced, gradeOf, effect, Outcome, refused, done, outcomeBy, outcome}
-use Rattle.model.proofs.Bools.{not-not}
+use Rattle.model.specs.Call.{Result, count, Effect, writes, changes, extending, makes, replaced, gradeOf, effect, Outcome, refused, done, outcomeBy, outcome}
+use Rattle.model.proofs.Bools.{and-r, not-not}
 use Rattle.model.proofs.Partitions.{ValidSet}
 use Rattle.model.proofs.Sets.{remove-valid}
 use Rattle.model.proofs.Rows.{Passes, passes, passes-both, refusal-behind}
 use Rattle.model.proofs.Restriction.{restrict, raw-restrict, visible-restrict, live-own, same-own, same-own-live, same-place}
-use Rattle.model.proofs.Keeps.{ValidSets, element-valid, insert-valid, update-valid}
+use Rattle.model.proofs.Keeps.{ValidSets, element-valid, update-valid}
 use Rattle.model.proofs.Taking.{rows-taken, taken-valid, same-take}
+use Rattle.model.proofs.Groups.{rows-placed, insert-valid}
 
 -- the length of the output that is lent with an operation
 abbrev pub roomOf : Op → ℕ
@@ -47,6 +49,11 @@ pub record OpLaws (o : Op) : Type 0 where
   pub keeps : (s : ℕ) (m : Model) → ValidSets m → Passes (opRows o s m) → (es : List Element) → effect o s m .change ≡ some es → ValidSet key s es
   pub fits : (s : ℕ) (m : Model) → Passes (opRows o s m) → length (effect o s m .written) ≤ roomOf o
 
+-- what is made of the visible elements and the subject's own set depends only on the partitions that he dominates
+same-both : {A : Type 0} (f : List Element → List Element → A) (s : ℕ) (m : Model) → T (isLabel s)
+    → f (visible s m) (ownSet s m) ≡ f (visible s (restrict s m)) (ownSet s (restrict s m))
+same-both f s m t = ap₂ f (sym (visible-restrict s m)) (same-own s m t)
+
 -- ---- an operation that only reads: the visible elements and the subject's own set give its rows, its result and its text
 
 pub record Reading (o : Op) : Type 0 where
@@ -61,41 +68,34 @@ pub reading-laws : {o : Op} → Reading o → OpLaws o
 unfolding writes
 reading-laws {o} r =
     record {
-      rows-local = λ s m t. ap refusal (r .rows-are s m ∙ same (r .rows s) s m t ∙ sym (r .rows-are s (restrict s m)));
+      rows-local = λ s m t. ap refusal (r .rows-are s m ∙ same-both (r .rows s) s m t ∙ sym (r .rows-are s (restrict s m)));
       effect-local = λ s m t.
-          r .effect-is s m ∙ same (λ v e. writes (r .result s v e) (r .text s v e)) s m t ∙ sym (r .effect-is s (restrict s m));
+          r .effect-is s m ∙ same-both (λ v e. writes (r .result s v e) (r .text s v e)) s m t ∙ sym (r .effect-is s (restrict s m));
       keeps = λ s m sets h es e.
           let q : none ≡ some es = sym (ap (λ (x : Effect). x .change) (r .effect-is s m)) ∙ e in
           let z : _≡_ {A = ℕ} 0 1 = cc in
           absurd (omega arith);
       fits = λ s m h. rw (r .effect-is s m) (r .text-fits s (visible s m) (ownSet s m) (rw (r .rows-are s m) at h));
     }
-  where
-    same : {A : Type 0} (f : List Element → List Element → A) (s : ℕ) (m : Model) → T (isLabel s)
-        → f (visible s m) (ownSet s m) ≡ f (visible s (restrict s m)) (ownSet s (restrict s m))
-    same f s m t = ap₂ f (sym (visible-restrict s m)) (same-own s m t)
 
--- ---- one that changes the subject's set, and writes nothing: the set gives its result and the new set
+-- ---- one that changes the subject's set, and writes nothing: the visible elements and the set give its result and the new set
 
 pub record Changing (o : Op) : Type 0 where
-  pub result : List Element → Result
-  pub set : List Element → List Element
-  pub effect-is : (s : ℕ) (m : Model) → effect o s m ≡ changes (result (ownSet s m)) (set (ownSet s m))
+  pub result : (seen own : List Element) → Result
+  pub set : (seen own : List Element) → List Element
+  pub effect-is : (s : ℕ) (m : Model) → effect o s m ≡ changes (result (visible s m) (ownSet s m)) (set (visible s m) (ownSet s m))
   pub rows-local : (s : ℕ) (m : Model) → T (isLabel s) → refusal (opRows o s m) ≡ refusal (opRows o s (restrict s m))
-  pub valid : (s : ℕ) (m : Model) → ValidSets m → Passes (opRows o s m) → ValidSet key s (set (ownSet s m))
+  pub valid : (s : ℕ) (m : Model) → ValidSets m → Passes (opRows o s m) → ValidSet key s (set (visible s m) (ownSet s m))
 
 pub changing-laws : {o : Op} → Changing o → OpLaws o
 unfolding changes
 changing-laws {o} r =
     record {
       rows-local = r .rows-local;
-      effect-local = λ s m t.
-          r .effect-is s m
-          ∙ ap (λ (e : List Element). changes (r .result e) (r .set e)) (same-own s m t)
-          ∙ sym (r .effect-is s (restrict s m));
+      effect-local = λ s m t. r .effect-is s m ∙ same-both (λ v e. changes (r .result v e) (r .set v e)) s m t ∙ sym (r .effect-is s (restrict s m));
       keeps = λ s m sets h es e.
-          let q : some (r .set (ownSet s m)) ≡ some es = sym (ap (λ (x : Effect). x .change) (r .effect-is s m)) ∙ e in
-          let f : r .set (ownSet s m) ≡ es = cc in
+          let q : some (r .set (visible s m) (ownSet s m)) ≡ some es = sym (ap (λ (x : Effect). x .change) (r .effect-is s m)) ∙ e in
+          let f : r .set (visible s m) (ownSet s m) ≡ es = cc in
           rw f at (r .valid s m sets h);
       fits = λ s m h. rw (r .effect-is s m) (omega arith);
     }
@@ -153,50 +153,37 @@ pub record Brought (p : List ℕ) (c : Content) : Type 0 where
 pub rows-brought : (p : List ℕ) (c : Content) → Passes (bringRows p c) → Brought p c
 rows-brought p c h = record { path = not-not (goodPath p) (h .0); content = not-not (bringable c) (h .1 .0) }
 
+-- its steps make a valid path, and its content may be stored
+pub brought-valid : {p : List ℕ} {c : Content} → Brought p c → T (validPath (stepsOf p)) × T (storable c)
+unfolding goodPath bringable storable
+brought-valid {p} b = (and-r (eqb (length p % 3) 0) (validPath (stepsOf p)) (b .path), b .content)
+
 -- what rows 6 and 7 of an element that is there show
 pub rows-own-live : (s : ℕ) (m : Model) (p : List Step) → Passes (ownLiveRows s m p) → T (endsIn s p) × T (contains (ownSet s m) p)
 rows-own-live s m p h =
     let own : T (endsIn s p) = not-not (endsIn s p) (h .0) in
     (own, rw (live-own s m p own) at (not-not (live m p) (h .1 .0)))
 
--- what rows 6 to 9 of an element that comes show
-pub record Placed (s : ℕ) (m : Model) (p : List Step) : Type 0 where
-  pub own : T (endsIn s p)
-  pub seen : T (inView s m (parent p))
-  pub lacks : T (not (contains (ownSet s m) p))
-  pub free : length (ownSet s m) < 32
-
-pub rows-placed : (s : ℕ) (m : Model) (p : List Step) → Passes (placeRows s m p) → Placed s m p
-rows-placed s m p h =
-    let own : T (endsIn s p) = not-not (endsIn s p) (h .0) in
-    record {
-      own = own;
-      seen = not-not (inView s m (parent p)) (h .1 .0);
-      lacks = rw (live-own s m p own) at (h .1 .1 .0);
-      free = leb-no (h .1 .1 .1 .0);
-    }
-
 insert-changes : (p : List ℕ) (c : Content) → Changing (insert p c)
-unfolding opRows effect
+unfolding opRows effect makes
 insert-changes p c =
     record {
-      result = λ own. count 0;
-      set = added (stepsOf p) c;
+      result = λ v own. count (length (missingPaths (seenSteps v (stepsOf p)) (stepsOf p)));
+      set = λ v own. withAll (withGroups (seenSteps v (stepsOf p)) (stepsOf p) c) own;
       effect-is = λ s m. refl;
       rows-local = λ s m t. refusal-behind (bringRows p c) _ _ (λ h. same-place s m t (stepsOf p));
       valid = λ s m sets h.
           let r = passes-both (bringRows p c) (placeRows s m (stepsOf p)) h in
-          let b : Brought p c = rows-brought p c (r .0) in
-          let q : Placed s m (stepsOf p) = rows-placed s m (stepsOf p) (r .1) in
-          insert-valid s m sets (stepsOf p) c (element-valid s p c (b .path) (b .content) (q .own)) (q .seen) (q .lacks) (q .free);
+          let b = brought-valid (rows-brought p c (r .0)) in
+          insert-valid s m sets (stepsOf p) c (b .0) (b .1) (rows-placed s m (stepsOf p) (r .1));
     }
 
 update-changes : (p : List ℕ) (c : Content) → Changing (update p c)
 unfolding opRows effect
 update-changes p c =
     record {
-      result = λ own. count 1;
-      set = replaced (stepsOf p) c;
+      result = λ v own. count 1;
+      set = λ v own. replaced (stepsOf p) c own;
       effect-is = λ s m. refl;
       rows-local = λ s m t. refusal-behind (bringRows p c) _ _ (λ h. same-own-live s m t (stepsOf p));
       valid = λ s m sets h.
@@ -210,8 +197,8 @@ delete-changes : (p : List ℕ) → Changing (delete p)
 unfolding opRows effect
 delete-changes p =
     record {
-      result = λ own. count (extending (stepsOf p) own);
-      set = remove (stepsOf p);
+      result = λ v own. count (extending (stepsOf p) own);
+      set = λ v own. remove (stepsOf p) own;
       effect-is = λ s m. refl;
       rows-local = λ s m t. refusal-behind (pathRows p) _ _ (λ h. same-own-live s m t (stepsOf p));
       valid = λ s m sets h. remove-valid s (stepsOf p) (ownSet s m) (sets s);
@@ -221,8 +208,8 @@ take-changes : (p : List ℕ) (f : Forest) → Changing (insertXml p f)
 unfolding opRows effect
 take-changes p f =
     record {
-      result = λ own. count (length (entries (stepsOf p) f));
-      set = withAll (elementsOf (stepsOf p) f);
+      result = λ v own. count (length (entries (stepsOf p) f));
+      set = λ v own. withAll (elementsOf (stepsOf p) f) own;
       effect-is = λ s m. refl;
       rows-local = λ s m t.
           refusal-behind (viewPathRows p ++ sentRows s (length (stepsOf p)) f) _ _ (λ h. same-take s m t (stepsOf p) f (not-not (ownLive s f) (h .1 .1 .0)));

@@ -8,7 +8,7 @@ use lib.Dec.{T}
 use mir.Facts.{eqb-yes}
 use Rattle.model.specs.Lists.{any, gather}
 use Rattle.model.specs.Label.{labels, isLabel, dominates}
-use Rattle.model.specs.Path.{Step, parent, lastStep, bears, endsIn}
+use Rattle.model.specs.Path.{Step, lastStep, bears, endsIn}
 use Rattle.model.specs.Element.{Element, contains}
 use Rattle.model.specs.Model.{Cell, held, isHeld, elements, Model, ownSet, liveBy, live}
 use Rattle.model.specs.View.{visible, reaches, inView}
@@ -69,9 +69,12 @@ module _ (s : ℕ) (m : Model) (t : T (isLabel s)) where
   pub same-own : ownSet s m ≡ ownSet s (restrict s m)
   same-own = sym (own-restrict s m t)
 
+  same-seen : visible s m ≡ visible s (restrict s m)
+  same-seen = sym (visible-restrict s m)
+
   pub same-view : (p : List Step) → inView s m p ≡ inView s (restrict s m) p
   unfolding inView
-  same-view p = ap (λ (v : List Element). reaches v p) (sym (visible-restrict s m))
+  same-view p = ap (λ (v : List Element). reaches v p) same-seen
 
   pub same-live : (p : List Step) → T (endsIn s p) → live m p ≡ live (restrict s m) p
   same-live p h = live-own s m p h ∙ ap (λ (es : List Element). contains es p) same-own ∙ sym (live-own s (restrict s m) p h)
@@ -80,4 +83,4 @@ module _ (s : ℕ) (m : Model) (t : T (isLabel s)) where
   same-own-live p = refusal-behind (row 6 _ ∷ []) _ _ (λ h. rw (same-live p (not-not (endsIn s p) (h .0))))
 
   pub same-place : (p : List Step) → refusal (placeRows s m p) ≡ refusal (placeRows s (restrict s m) p)
-  same-place p = refusal-behind (row 6 _ ∷ []) _ _ (λ h. rw (same-view (parent p), same-live p (not-not (endsIn s p) (h .0)), same-own))
+  same-place p = refusal-behind (row 6 _ ∷ []) _ _ (λ h. rw (same-seen, same-live p (not-not (endsIn s p) (h .0)), same-own))

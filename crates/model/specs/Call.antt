@@ -16,6 +16,7 @@ use Rattle.model.specs.Xml.{xmlView}
 use Rattle.model.specs.Tree.{Forest, entries}
 use Rattle.model.specs.Intake.{elementsOf, withAll}
 use Rattle.model.specs.Grade.{measureAt, stepOf, remainderOf}
+use Rattle.model.specs.Groups.{seenSteps, missingPaths, withGroups}
 use Rattle.model.specs.Rows.{Row, refusal, sizeRows, labelRows, formedRows, pathRows, lookRows, bringRows, ownLiveRows, placeRows, roomRows, askedRows, measuredRows, viewPathRows, sentRows, takeRows}
 
 -- who calls
@@ -119,6 +120,10 @@ extending p es = length (keep (λ e. isPrefix p (e .path)) es)
 unfoldable pub added : List Step → Content → List Element → List Element
 added p c es = put rank (record { path = p; content = c }) es
 
+-- the groups that are missing behind the first n steps of the path are made, and the element comes; the groups are counted
+unfoldable pub makes : ℕ → List Step → Content → List Element → Effect
+makes n p c es = changes (count (length (missingPaths n p))) (withAll (withGroups n p c) es)
+
 -- the set in which the element at the path has another content, and each other element is as it was
 unfoldable pub replaced : List Step → Content → List Element → List Element
 replaced p c es = map (λ e. cond (samePath p (e .path)) (record { path = p; content = c }) e) es
@@ -131,7 +136,7 @@ gradeOf n none b = graded (pos 0) 0
 
 unfoldable pub effect : Op → ℕ → Model → Effect
 effect (view p room) s m = writes (count (length (listing s m (stepsOf p)))) (listing s m (stepsOf p))
-effect (insert p c) s m = changes (count 0) (added (stepsOf p) c (ownSet s m))
+effect (insert p c) s m = makes (seenSteps (visible s m) (stepsOf p)) (stepsOf p) c (ownSet s m)
 effect (update p c) s m = changes (count 1) (replaced (stepsOf p) c (ownSet s m))
 effect (delete p) s m = changes (count (extending (stepsOf p) (ownSet s m))) (remove (stepsOf p) (ownSet s m))
 effect (viewXml p room) s m = writes (count (length (xmlView s m (stepsOf p)))) (xmlView s m (stepsOf p))

@@ -188,6 +188,16 @@ full = range numbered 1 32
 abbrev fullBelow : List Call
 fullBelow = numbered 1 ∷ range (λ n. by 0 (insert (path (step 1 0 ∷ step n 0 ∷ [])) group)) 1 31
 
+-- a measure of label 0 whose two groups are missing, and one of label 16 under the first of them
+abbrev p30 : List ℕ
+p30 = path (step 10 0 ∷ step 20 0 ∷ step 30 0 ∷ [])
+
+abbrev insert30 : Call
+insert30 = by 0 (insert p30 (measure 1 0 0 0))
+
+abbrev insert23 : Call
+insert23 = by 16 (insert (path (step 10 0 ∷ step 21 16 ∷ step 22 16 ∷ step 23 16 ∷ [])) (measure 1 0 0 0))
+
 -- five steps, and the calls that make them and two elements of label 31 below
 abbrev five : List Step
 five = step 258 0 ∷ step 2 1 ∷ step 3 3 ∷ step 4 7 ∷ step 5 15 ∷ []
@@ -283,6 +293,25 @@ furtherCases =
     ∷ calls listingCalls (by 16 (view p20 16384)) (printed 27 "VIEW\t16\t1\n2\t20\t16\tP\tM\t-150\n") []
     ∷ calls listingCalls (by 16 (view p20 26)) (refusedBy 10) []
     ∷ calls [] (by 16 (view p20 0)) (refusedBy 7) []
+    -- an insert makes the missing groups and counts them; its element is there then. Another label's are made under what is in view, be it
+    -- removed; what was taken with a delete is missing again
+    ∷ calls [] insert30 (counted 2)
+    (holds 0
+    ((3 ∷ 0 ∷ 0 ∷ 0 ∷ [])
+    ++ slot 1 (10 ∷ zeros 11) (zeros 6) 0 0 (zeros 19)
+    ++ slot 2 (10 ∷ 0 ∷ 20 ∷ zeros 9) (zeros 6) 0 0 (zeros 19)
+    ++ slot 3 (10 ∷ 0 ∷ 20 ∷ 0 ∷ 30 ∷ zeros 7) (zeros 6) 1 4 (1 ∷ zeros 18)) ∷ [])
+    ∷ calls (insert30 ∷ []) insert30 (refusedBy 8) []
+    ∷ calls (insert30 ∷ []) insert23 (counted 2) []
+    ∷ calls (insert30 ∷ insert23 ∷ by 0 (delete p10) ∷ []) (by 16 (insert (path (step 10 0 ∷ step 21 16 ∷ step 40 16 ∷ [])) group)) (counted 0) []
+    ∷ calls (insert30 ∷ insert23 ∷ by 0 (delete p10) ∷ []) (by 0 (insert (path (step 10 0 ∷ step 50 0 ∷ step 51 0 ∷ [])) group)) (counted 2) []
+    ∷ calls [] (by 16 (insert (path (step 1 16 ∷ step 2 16 ∷ step 3 16 ∷ step 4 16 ∷ step 5 16 ∷ step 6 16 ∷ [])) group)) (counted 5) []
+    -- a missing step of another label, also with own steps behind it
+    ∷ calls (insert30 ∷ []) (by 16 (insert (path (step 10 0 ∷ step 24 0 ∷ step 25 16 ∷ [])) group)) (refusedBy 7) []
+    ∷ calls [] (by 16 (insert (path (step 11 8 ∷ step 12 16 ∷ step 13 16 ∷ [])) group)) (refusedBy 7) []
+    -- slots for the element and one group, not for two groups
+    ∷ calls (range numbered 1 30) (by 0 (insert (path (step 40 0 ∷ step 1 0 ∷ step 2 0 ∷ [])) group)) (refusedBy 9) []
+    ∷ calls (range numbered 1 30) (by 0 (insert (path (step 40 0 ∷ step 1 0 ∷ [])) group)) (counted 1) []
     -- what is not live, or has no parent in view
     ∷ calls [] (by 0 (delete p10)) (refusedBy 7) []
     ∷ calls [] (by 0 (update p10 group)) (refusedBy 7) []

@@ -16,6 +16,7 @@ pub mod Xml
 pub mod Tags
 pub mod Intake
 pub mod Grade
+pub mod Groups
 pub mod Rows
 pub mod Call
 pub mod Run

@@ -7,7 +7,7 @@ use lib.ListN.{length}
 use lib.Dec.{eqb, leb, ltb}
 use Rattle.model.specs.Lists.{any}
 use Rattle.model.specs.Label.{labels, isLabel, dominates}
-use Rattle.model.specs.Path.{Step, parent, endsIn, validPath, stepsOf}
+use Rattle.model.specs.Path.{Step, endsIn, validPath, stepsOf}
 use Rattle.model.specs.Value.{Content, bringable}
 use Rattle.model.specs.Store.{storeSize}
 use Rattle.model.specs.Model.{Model, isHeld, ownSet, live}
@@ -15,6 +15,7 @@ use Rattle.model.specs.View.{visible, inView}
 use Rattle.model.specs.Tree.{Forest, entries}
 use Rattle.model.specs.Intake.{siblings, inForm, ownLive, isOne}
 use Rattle.model.specs.Grade.{isMeasure, measureAt}
+use Rattle.model.specs.Groups.{seenSteps, ownBehind, missingPaths}
 
 -- a row has a number and whether its cause applies
 pub data Row : Type 0 where
@@ -96,10 +97,15 @@ measureRows s m p = row 12 (not (isMeasure (measureAt (visible s m) p))) ∷ []
 abbrev pub lookRows : ℕ → Model → List ℕ → List Row
 lookRows s m p = viewPathRows p ++ seenRows s m (stepsOf p)
 
--- rows 6 to 9 of an element that comes: the last label is the subject's, the parent is in view, it is not there, a slot is free
+-- rows 6 to 9 of an element that comes: the last label is the subject's, each step behind the longest prefix in view bears it, the element
+-- is not there, and slots are free for the missing groups and for it
 abbrev pub placeRows : ℕ → Model → List Step → List Row
 placeRows s m p =
-    row 6 (not (endsIn s p)) ∷ (seenRows s m (parent p) ++ (row 8 (live m p) ∷ row 9 (leb 32 (length (ownSet s m))) ∷ []))
+    row 6 (not (endsIn s p))
+    ∷ row 7 (not (ownBehind s (seenSteps (visible s m) p) p))
+    ∷ row 8 (live m p)
+    ∷ row 9 (ltb 32 (length (ownSet s m) + length (missingPaths (seenSteps (visible s m) p) p) + 1))
+    ∷ []
 
 -- rows 4 and 11 of an even grade: each of the two paths, then the sizes
 abbrev pub askedRows : (base top : List ℕ) → ℕ → List Row

@@ -1,6 +1,5 @@
 -- A store after its subject's own partition was lent and written.
 use mathlib.Core.Path.{_≡_, sym, ap, _∙_}
-use mathlib.Core.Bool.{Bool}
 use mathlib.Core.List.{List, _++_}
 use Prim.Native.Nat.{ℕ, _+_, _-_, _*_, _<_}
 use native.Mathlib.Omega.{arith}
@@ -9,14 +8,16 @@ use lib.Dec.{T}
 use borrow.Rule.Slice.PartMut.{putMid, post-is}
 use Rattle.model.specs.Label.{dominates}
 use Rattle.model.specs.Path.{Step}
+use Rattle.model.specs.Value.{Content}
 use Rattle.model.specs.Element.{Element}
 use Rattle.model.specs.Partition.{layout, count, readPartition, wellFormed}
 use Rattle.model.specs.Store.{partition, replace}
 use Rattle.model.specs.Model.{openModel, ownSet}
 use Rattle.model.proofs.Dominance.{dominates-refl}
 use Rattle.model.proofs.Stores.{yes-has, replace-placed}
-use Rattle.partition.specs.Place.{Formed, placeOf, Found, Room}
+use Rattle.partition.specs.Place.{Formed, placeOf}
 use Rattle.partition.proofs.Layouts.{length-elements}
+use Rattle.groups.specs.Vacant as part
 use Rattle.store.specs.Opened.{Own, Vacant}
 use Rattle.store.proofs.Parts.{held-formed, formed-set, part-lent}
 
@@ -73,15 +74,16 @@ module _ {b : List ℕ} {s : ℕ} (o : Own b s) where
         ∙ sym (replace-placed s x b (yes-has s b (o .size) (o .label)))
         ∙ ap (λ (l : List ℕ). replace s l b) (g ∙ ap (λ (es : List Element). layout (f es)) lent-set)
 
--- the part that is lent has room
-pub own-room : {b : List ℕ} {s : ℕ} (p : List Step) (v : Vacant b s p) {k : ℕ} (i : (k ≡ s) × (k < 256)) {x : List ℕ} {at : ℕ} {found : Bool}
-    → x ≡ partition s b → Found x p at found → Room (lentPart k b) at p
-own-room {b} {s} p v {k} i e f =
-    let q : ownSet s (openModel b) ≡ readPartition (lentPart k b) = sym (lent-set (v .own) i) in
-    let g : Formed (lentPart k b) = lent-formed (v .own) i in
+-- the part that is lent lacks the path too
+pub own-vacant : {b : List ℕ} {s : ℕ} {p : List Step} {at n : ℕ} {c : Content} (v : Vacant b s p at n c) {k : ℕ} (i : (k ≡ s) × (k < 256))
+    → part.Vacant (lentPart k b) p at n c
+own-vacant {b} {s} {p} v i =
+    let q = lent-set (v .own) i in
     record {
-      formed = g;
-      free = rw (← (length-elements g), ← q) (v .free);
-      place = lent-place (v .own) i p (f .at-is ∙ ap (λ (l : List ℕ). placeOf p (readPartition l)) e ∙ ap (placeOf p) (sym (own-set (v .own))));
-      lacks = rw (← q) (v .lacks);
+      label = s;
+      formed = lent-good (v .own) i;
+      lacking = rw q (v .lacking);
+      place = lent-place (v .own) i p (v .place);
+      content = v .content;
+      room = rw q (v .room);
     }

@@ -73,7 +73,7 @@ part-lent s n b {k} size t e =
 -- ---- over the labels
 
 -- a label is not greater than one that dominates it, so none from e on is dominated
-not-above : (s e n : ℕ) → (e ≤ 32) × (s < 32 → s < e) → e ≤ n → dominates s n ≡ false
+pub not-above : (s e n : ℕ) → (e ≤ 32) × (s < 32 → s < e) → e ≤ n → dominates s n ≡ false
 not-above s e n f h =
     decide (dominates s n)
     (λ (t : T (dominates s n)). absurd (omega (arith, dominates-le s n t, f .1 (label-lt s (dominates-upper s n t)))))
@@ -86,10 +86,9 @@ any-cut p i zero (suc c) h f = rw (f i (omega arith)) (any-cut p (suc i) zero c 
 any-cut p i (suc k) zero h f = absurd (omega arith)
 any-cut p i (suc k) (suc c) h f = ap (λ (t : Bool). p i || t) (any-cut p (suc i) k c (omega arith) (λ n g. f n (omega arith)))
 
--- so one over the labels that needs dominance may end at e
-pub labels-start : (s : ℕ) (p : ℕ → Bool) {e : ℕ} → (e ≤ 32) × (s < 32 → s < e) → ((n : ℕ) → dominates s n ≡ false → p n ≡ false)
-    → Left (λ n. n) (any p) (any p labels) e 0
-labels-start s p {e} f q = rw (any-cut p 0 e 32 (f .0) (λ n h. q n (not-above s e n f (omega arith)))) (left-start (λ n. n) (any p) e)
+-- so one over the labels may end at e
+pub labels-start : (p : ℕ → Bool) {e : ℕ} → e ≤ 32 → ((n : ℕ) → e ≤ n → p n ≡ false) → Left (λ n. n) (any p) (any p labels) e 0
+labels-start p {e} f q = rw (any-cut p 0 e 32 f (λ n h. q n (omega arith))) (left-start (λ n. n) (any p) e)
 
 -- the subject dominates label n, whose partition is not well formed
 abbrev pub rawAt : ℕ → List ℕ → ℕ → Bool
@@ -97,4 +96,4 @@ rawAt s b n = dominates s n && not (isHeld (openModel b .cell n))
 
 pub raw-start : (s : ℕ) (b : List ℕ) {e : ℕ} → (e ≤ 32) × (s < 32 → s < e) → Left (λ n. n) (any (rawAt s b)) (someRaw s (openModel b)) e 0
 unfolding someRaw
-raw-start s b f = labels-start s (rawAt s b) f (λ n q. rw q)
+raw-start s b {e} f = labels-start (rawAt s b) (f .0) (λ n h. rw (not-above s e n f h))

@@ -21,8 +21,8 @@ use Rattle.model.proofs.Members.{not-any, in-any}
 use Rattle.model.proofs.Walks.{Left, in-range}
 use Rattle.path.proofs.Steps.{length-steps, root-steps}
 use Rattle.partition.specs.Place.{Formed}
-use Rattle.store.specs.Opened.{Opened, belowAt}
-use Rattle.store.proofs.Parts.{rawAt, held-formed, formed-set, dominated-lt, labels-start}
+use Rattle.store.specs.Opened.{Opened, belowAt, Within}
+use Rattle.store.proofs.Parts.{rawAt, held-formed, formed-set, dominated-lt, not-above, labels-start}
 
 -- a partition that the subject dominates is well formed
 pub opened-formed : {b : List ℕ} {s : ℕ} → Opened b s → (n : ℕ) → T (dominates s n) → T (wellFormed n (partition n b))
@@ -96,6 +96,9 @@ module _ (s : ℕ) (b p : List ℕ) (some : 3 ≤ length p) where
           let z : dominates s n ≡ false = is-false (dominates s n) u in
           subst (λ (c : Bool). T (not c)) (sym (ap (λ (c : Bool). any (λ e. isPrefix (stepsOf p) (e .path)) (cond c (ownSet n (openModel b)) [])) z) ∙ q) tt
 
-  pub view-start : {e : ℕ} → (e ≤ 32) × (s < 32 → s < e)
-      → Left (λ n. n) (any (belowAt s b (stepsOf p))) (inView s (openModel b) (stepsOf p)) e 0
-  view-start f = rw view-any (labels-start s (belowAt s b (stepsOf p)) f (λ n z. rw z))
+  pub view-start : {e : ℕ} → Within b s (stepsOf p) e → Left (λ n. n) (any (belowAt s b (stepsOf p))) (inView s (openModel b) (stepsOf p)) e 0
+  view-start w = rw view-any (labels-start (belowAt s b (stepsOf p)) (w .few) (w .others))
+
+-- no label that a subject does not dominate has an element for him
+pub all-within : (s : ℕ) (b : List ℕ) (p : List Step) {e : ℕ} → (e ≤ 32) × (s < 32 → s < e) → Within b s p e
+all-within s b p {e} f = record { few = f .0; others = λ n h. rw (not-above s e n f h) }

@@ -16,7 +16,7 @@ ghost use Rattle.model.specs.Store.{storeSize, partition};
 ghost use Rattle.model.specs.Model.{isHeld, openModel};
 ghost use Rattle.model.specs.View.{inView};
 ghost use Rattle.model.specs.Rows.{someRaw};
-ghost use Rattle.store.specs.Opened.{Opened, belowAt};
+ghost use Rattle.store.specs.Opened.{Opened, belowAt, Within};
 
 // The partition of a label that the subject dominates: that part of the lent store.
 pub fn partition_of(store: &[u8], subject: u8, label: u8) -> &[u8]
@@ -76,9 +76,10 @@ pub fn holds_below(store: &[u8], subject: u8, label: u8, path: &[u8]) -> bool
     partition::has_below(partition_of(store, subject, label), path)
 }
 
-// Whether a lent path is in the subject's view. The path's own element stands in the partition of its last label, which is asked first.
-pub fn in_view(store: &[u8], subject: u8, path: &[u8]) -> bool
-    requires { ⌜ Opened (now store) subject ⌝ }
+// Whether a lent path is in the subject's view, where of the labels from end on none holds it. The path's own element stands in the
+// partition of its last label, which is asked first.
+pub fn in_view_before(store: &[u8], subject: u8, path: &[u8], end: u8) -> bool
+    requires { ⌜ Opened (now store) subject × Within (now store) subject (stepsOf (now path)) end ⌝ }
     ensures { λ r. ⌜ r ≡ inView subject (openModel (now (store .entry))) (stepsOf (now (path .entry))) ⌝ }
 {
     if path.len() < 3 {
@@ -88,7 +89,6 @@ pub fn in_view(store: &[u8], subject: u8, path: &[u8]) -> bool
     if holds_below(store, subject, last, path) {
         return true;
     }
-    let end = labels_end(subject);
     let mut n: u8 = 0;
     while n < end {
         if holds_below(store, subject, n, path) {
@@ -97,4 +97,12 @@ pub fn in_view(store: &[u8], subject: u8, path: &[u8]) -> bool
         n += 1;
     }
     false
+}
+
+// Whether a lent path is in the subject's view.
+pub fn in_view(store: &[u8], subject: u8, path: &[u8]) -> bool
+    requires { ⌜ Opened (now store) subject ⌝ }
+    ensures { λ r. ⌜ r ≡ inView subject (openModel (now (store .entry))) (stepsOf (now (path .entry))) ⌝ }
+{
+    in_view_before(store, subject, path, labels_end(subject))
 }

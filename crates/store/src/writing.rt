@@ -1,5 +1,4 @@
 // Writing into a store: the subject's own partition is lent, and no other part of the store.
-use crate::partition_of;
 ghost use mathlib.Core.Path.{_≡_};
 ghost use Prim.Native.Nat.{_<_, _≤_};
 ghost use lib.ListN.{length};
@@ -8,8 +7,9 @@ ghost use Rattle.model.specs.Element.{remove};
 ghost use Rattle.model.specs.Partition.{layout};
 ghost use Rattle.model.specs.Store.{replace};
 ghost use Rattle.model.specs.Model.{openModel, ownSet};
-ghost use Rattle.model.specs.Call.{extending, added};
+ghost use Rattle.model.specs.Call.{extending};
 ghost use Rattle.partition.specs.Place.{placeOf, replacedAt};
+ghost use Rattle.groups.specs.Vacant.{made};
 ghost use Rattle.store.specs.Opened.{Own, Vacant};
 
 // Removes the path, which stands from slot at on, and all that extends it from the subject's partition: how many elements went.
@@ -23,17 +23,23 @@ pub fn remove(store: &mut [u8], subject: u8, at: usize, path: &[u8]) -> usize
     partition::remove(&mut store[start..end], at, path)
 }
 
-// Puts an element into the subject's partition, which has room and no element at the path.
-pub fn insert(store: &mut [u8], subject: u8, path: &[u8], kind: u8, value: &[u8])
-    requires { ⌜ Vacant (now store) subject (stepsOf (now path)) ⌝ }
+// Puts an element and the groups that are missing above it into the subject's partition, from slot at on.
+pub fn insert(
+    store: &mut [u8],
+    subject: u8,
+    at: usize,
+    path: &[u8],
+    seen: usize,
+    kind: u8,
+    value: &[u8],
+)
+    requires { ⌜ Vacant (now store) subject (stepsOf (now path)) at seen (record { kind = kind; value = now value }) ⌝ }
     requires { ⌜ (length (now path) ≤ 20) × (length (now value) ≤ 16) ⌝ }
-    ensures { λ _. ⌜ now (store .exit) ≡ replace subject (layout (added (stepsOf (now (path .entry))) (record { kind = kind; value = now (value .entry) }) (ownSet subject (openModel (now (store .entry)))))) (now (store .entry)) ⌝ }
+    ensures { λ _. ⌜ now (store .exit) ≡ replace subject (layout (made seen (stepsOf (now (path .entry))) (record { kind = kind; value = now (value .entry) }) (ownSet subject (openModel (now (store .entry)))))) (now (store .entry)) ⌝ }
 {
-    let f = partition::find(partition_of(store, subject, subject), path);
-    let at = f.at;
     let start = 1284 * octets::index(subject);
     let end = start + 1284;
-    partition::insert(&mut store[start..end], at, path, kind, value);
+    groups::put_all(&mut store[start..end], at, path, seen, kind, value);
 }
 
 // Gives the element in slot at of the subject's partition another kind and value.

@@ -1,26 +1,26 @@
 -- The table walked by the code: what each test says of its row.
 use mathlib.Core.Path.{_≡_, refl, sym, ap, subst, _∙_}
 use mathlib.Core.Bool.{Bool, true, false, not, _||_}
-use mathlib.Core.List.{List, [], _∷_}
-use Prim.Native.Nat.{ℕ, zero, suc, _+_, _-_, _*_, _/_, _%_, _≤_, _<_}
+use mathlib.Core.List.{List}
+use Prim.Native.Nat.{ℕ, _-_, _≤_, _<_}
 use native.Mathlib.Omega.{arith}
 use borrow.Author.Tests.{not-false, eq-eqb, ne-eqb}
-use lib.ListN.{length, take, drop}
-use lib.Dec.{T, eqb, leb}
-use mir.Facts.{yes-eqb, no-eqb, yes-ltb, no-ltb, yes-leb, no-leb}
+use lib.ListN.{length}
+use lib.Dec.{T, eqb}
+use mir.Facts.{yes-eqb, no-eqb, yes-ltb, no-ltb}
 use Rattle.model.specs.Label.{isLabel}
-use Rattle.model.specs.Path.{Step, parent, stepsOf, endsIn}
+use Rattle.model.specs.Path.{Step, endsIn}
 use Rattle.model.specs.Value.{Content, allowed, bringable}
 use Rattle.model.specs.Element.{Element, contains}
 use Rattle.model.specs.Partition.{partitionSize, count, readPartition}
 use Rattle.model.specs.Store.{storeSize, partition}
 use Rattle.model.specs.Model.{ownSet, live, openModel}
-use Rattle.model.specs.View.{inView}
 use Rattle.model.specs.Rows.{goodPath, viewPath, someRaw, sizeRows, labelRows}
 use Rattle.model.proofs.Bools.{yes-not-not}
 use Rattle.model.proofs.Dominance.{dominates-refl}
 use Rattle.model.proofs.Restriction.{live-own}
 use Rattle.model.proofs.Rows.{row-applies, rows-behind}
+use Rattle.model.proofs.Keeps.{open-valid}
 use Rattle.partition.specs.Place.{placeOf, Found}
 use Rattle.partition.proofs.Layouts.{length-elements}
 use Rattle.store.specs.Opened.{Opened, Own}
@@ -96,7 +96,7 @@ module _ (p : List ℕ) where
 -- ---- the own partition, searched
 
 module _ {s : ℕ} {b : List ℕ} (o : Opened b s) {x : List ℕ} (g : (x ≡ partition s b) × (length x ≡ partitionSize)) where
-  own-set : ownSet s (openModel b) ≡ readPartition x
+  pub own-set : ownSet s (openModel b) ≡ readPartition x
   own-set = opened-set o s (dominates-refl s (o .label)) ∙ ap readPartition (sym (g .0))
 
   -- an element of the own label is live if it is found there
@@ -112,34 +112,6 @@ module _ {s : ℕ} {b : List ℕ} (o : Opened b s) {x : List ℕ} (g : (x ≡ pa
   pub counted : {n : ℕ} → (n ≡ count x) × (n < 256) → n ≡ length (ownSet s (openModel b))
   counted k = k .0 ∙ sym (ap length own-set ∙ length-elements (own-part (opened-own o) (g .0)))
 
-  -- row 9
-  pub full : {n : ℕ} → (n ≡ count x) × (n < 256) → 32 ≤ n → T (leb 32 (length (ownSet s (openModel b))))
-  full k h = rw (← (counted k)) (yes-leb h)
-
-  pub roomy : {n : ℕ} → (n ≡ count x) × (n < 256) → n < 32 → T (not (leb 32 (length (ownSet s (openModel b)))))
-  roomy k h = rw (← (counted k)) (no-leb h)
-
--- ---- the parent of a lent path
-
-parent-steps : (p : List ℕ) → length p % 3 ≡ 0 → stepsOf (take (length p - 3) p) ≡ parent (stepsOf p)
-parent-steps p h = go (length p / 3) p (omega (arith, h))
-  where
-    go : (k : ℕ) (q : List ℕ) → length q ≡ 3 * k → stepsOf (take (length q - 3) q) ≡ parent (stepsOf q)
-    go k [] e = refl
-    go k (a ∷ []) e = absurd (omega arith)
-    go k (a ∷ b ∷ []) e = absurd (omega arith)
-    go k (a ∷ b ∷ c ∷ []) e = refl
-    go k (a ∷ b ∷ c ∷ d ∷ []) e = absurd (omega arith)
-    go k (a ∷ b ∷ c ∷ d ∷ f ∷ []) e = absurd (omega arith)
-    go zero (a ∷ b ∷ c ∷ d ∷ f ∷ g ∷ q) e = absurd (omega arith)
-    go (suc k) (a ∷ b ∷ c ∷ d ∷ f ∷ g ∷ q) e =
-        let n : length (a ∷ b ∷ c ∷ d ∷ f ∷ g ∷ q) - 3 ≡ suc (suc (suc (length (d ∷ f ∷ g ∷ q) - 3))) = omega arith in
-        ap (λ (j : ℕ). stepsOf (take j (a ∷ b ∷ c ∷ d ∷ f ∷ g ∷ q))) n
-        ∙ ap (λ (l : List Step). record { name = a + 256 * b; label = c } ∷ l) (go k (d ∷ f ∷ g ∷ q) (omega arith))
-
--- so what is seen of all but the last three bytes is seen of the parent
-pub parent-view : (s : ℕ) (b p : List ℕ) → length p % 3 ≡ 0 → {v : Bool}
-    → v ≡ inView s (openModel b) (stepsOf (take (length p - 3 - 0) (drop 0 p))) → v ≡ inView s (openModel b) (parent (stepsOf p))
-parent-view s b p h e =
-    let n : length p - 3 - 0 ≡ length p - 3 = omega arith in
-    e ∙ ap (λ (k : ℕ). inView s (openModel b) (stepsOf (take k p))) n ∙ ap (inView s (openModel b)) (parent-steps p h)
+  -- there are at most 32
+  pub own-few : {n : ℕ} → (n ≡ count x) × (n < 256) → n ≤ 32
+  own-few k = omega (arith, counted k, open-valid b s .few)

@@ -2,17 +2,16 @@
 // on with. Nothing is written here.
 mod look;
 mod own;
+mod placing;
 
 pub use look::is_view_path;
 pub use look::look_row;
 pub use own::Owned;
 pub use own::own_slot;
+pub use placing::Placed;
+pub use placing::place;
 ghost use mathlib.Core.Path.{_≡_};
-ghost use lib.Dec.{T};
-ghost use Rattle.model.specs.Path.{stepsOf};
-ghost use Rattle.model.specs.Model.{openModel};
-ghost use Rattle.model.specs.Rows.{goodPath, rowCode, bringRows, placeRows};
-ghost use Rattle.store.specs.Opened.{Opened};
+ghost use Rattle.model.specs.Rows.{rowCode, bringRows};
 ghost use Rattle.table.specs.Opening.{Opens};
 
 // What rows 1 and 2 say of a subject's call: it is refused by one of them, or it goes on for his label.
@@ -43,29 +42,6 @@ pub fn bring_row(path: &[u8], kind: u32, value: &[u8]) -> u32
     }
     if !kind::is_allowed(kind, value) {
         return 5;
-    }
-    0
-}
-
-// Rows 6 to 9 of an element that comes: the last label, the parent, the element, the free slot.
-pub fn place_row(store: &[u8], subject: u8, path: &[u8]) -> u32
-    requires { ⌜ Opened (now store) subject × T (goodPath (now path)) ⌝ }
-    ensures { λ r. ⌜ r ≡ rowCode (placeRows subject (openModel (now (store .entry))) (stepsOf (now (path .entry)))) ⌝ }
-{
-    if !path::ends_in(path, subject) {
-        return 6;
-    }
-    let n = path.len() - 3;
-    if !store::in_view(store, subject, &path[0..n]) {
-        return 7;
-    }
-    let part = store::partition_of(store, subject, subject);
-    let f = partition::find(part, path);
-    if f.found {
-        return 8;
-    }
-    if 32 <= partition::count(part) {
-        return 9;
     }
     0
 }

@@ -20,8 +20,10 @@ element near the middle of its partition, of the subject's label and with nothin
 the one that it inserts. An even grade has such an element for its top and the first of label 0 for its base, or the top
 again where there is no other; both are made measures. An XML intake has that first element, or the root, for its parent
 and finds the subject's partition empty; its elements count those that it makes. Its text has up to five levels, with
-siblings in random order. The well-formedness test is timed as a call that is refused right after it, for its path. The
-runner's time is a whole run of the program, from a file into a file. No text holds a character that XML escapes.
+siblings in random order. An insert that makes groups has a path of the subject's label alone whose first step is new;
+its elements count all that it makes. The well-formedness test is timed as a call that is refused right after it, for its
+path. The runner's time is a whole run of the program, from a file into a file. No text holds a character that XML
+escapes.
 ";
 /// The head of the table of growth.
 const GROWTH: &str = "As the store grows: a view of all by 31, its cost for each line (each visible element), and the
@@ -40,6 +42,7 @@ pub struct Report {
     pub runs: usize,
     pub floor: f64,
     pub calls: Vec<Row>,
+    pub group_inserts: Vec<Row>,
     pub intakes: Vec<Row>,
     pub refusals: Vec<Row>,
     pub runner: Row,
@@ -49,7 +52,8 @@ pub struct Report {
 impl Report {
     /// All rows that have a bar.
     fn rows(&self) -> impl Iterator<Item = &Row> {
-        self.calls.iter().chain(&self.intakes).chain(&self.refusals).chain(std::iter::once(&self.runner))
+        let calls = self.calls.iter().chain(&self.group_inserts).chain(&self.intakes);
+        calls.chain(&self.refusals).chain(std::iter::once(&self.runner))
     }
 
     /// The report as Markdown.

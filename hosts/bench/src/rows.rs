@@ -21,6 +21,10 @@ pub const HIGH_BAR: f64 = 1.0;
 const BAR: f64 = 1.2;
 /// The lowest and the highest label.
 const SUBJECTS: [u8; 2] = [0, 31];
+/// How many groups an insert makes whose parent is missing.
+const GROUPS: [usize; 2] = [1, 5];
+/// How many elements the store of such an insert has.
+const GROUP_STORE: usize = 256;
 /// How many elements the texts of XML intakes have.
 const TEXTS: [usize; 3] = [1, 8, 32];
 /// How many elements the store of an XML intake has before the subject's are taken out.
@@ -152,6 +156,27 @@ fn leaf(store: &[u8], label: u8) -> Vec<u8> {
     paths[at].bytes()
 }
 
+/// Inserts by the lowest and the highest label that make so many groups.
+pub fn group_inserts(seed: u64, rounds: usize) -> Vec<Row> {
+    let rows = GROUPS.into_iter().flat_map(|groups| {
+        SUBJECTS.map(|subject| {
+            let cases = (0..STORES).map(|which| {
+                let random = &mut random_of(seed, GROUP_STORE, which);
+                let store = stores::store(random, GROUP_STORE, subject);
+                group_case(random, store, subject, groups)
+            });
+            let name = format!("Insert, {groups} {} made, by {subject}", if groups == 1 { "group" } else { "groups" });
+            Open { name, elements: GROUP_STORE + groups + 1, bar: HIGH_BAR, work: gather(cases, 0) }
+        })
+    });
+    measured(rows.collect(), rounds)
+}
+
+/// An insert for which so many groups are missing.
+fn group_case(random: &mut Random, store: Vec<u8>, subject: u8, groups: usize) -> (Call, Vec<u8>) {
+    (call(Name::Insert, subject, stores::missing_path(random, &store, subject, groups + 1).bytes()), store)
+}
+
 /// XML intakes by the lowest and the highest label, of texts with so many elements.
 pub fn intakes(seed: u64, rounds: usize) -> Vec<Row> {
     let rows = TEXTS.into_iter().flat_map(|count| {
@@ -201,18 +226,22 @@ fn intake_case(seed: u64, which: u64, subject: u8, count: usize) -> (Call, Vec<u
 type Refused = (&'static str, usize, u32, fn(&[u8]) -> (Call, Vec<u8>));
 
 /// The refusals, by the highest label.
-const REFUSED: [Refused; 14] = [
+const REFUSED: [Refused; 16] = [
     ("Insert: store of another length", 256, 1, |store| (new(Name::Insert, 31), store[1..].to_vec())),
     ("Insert: subject over 31", 256, 2, |store| (Call { subject: 32, ..new(Name::Insert, 31) }, store.to_vec())),
     ("Insert: corruption of the last partition's last byte", 256, 3, corrupted_case),
     ("Insert: path not valid", 256, 4, |store| (new(Name::Insert, 32), store.to_vec())),
     ("Insert: value not valid", 256, 5, |store| (Call { kind: 3, ..new(Name::Insert, 31) }, store.to_vec())),
     ("Delete: another label", 256, 6, |store| (new(Name::Delete, 30), store.to_vec())),
+    ("Insert: a missing step of another label", 256, 7, |store| {
+        (call(Name::Insert, 31, vec![255, 255, 0, 255, 255, 31, 255, 255, 31]), store.to_vec())
+    }),
     ("Delete: not live", 256, 7, |store| (new(Name::Delete, 31), store.to_vec())),
     ("View: not in view", 256, 7, |store| (new(Name::View, 31), store.to_vec())),
     ("Even grade: top not in view", 256, 7, |store| changed_grade(store, |call, _| call.top = vec![255, 255, 31])),
     ("Insert: live already", 256, 8, |store| (call(Name::Insert, 31, leaf(store, 31)), store.to_vec())),
     ("Insert: partition full", 1024, 9, |store| (new(Name::Insert, 31), store.to_vec())),
+    ("Insert: room for the element and not for its 5 groups", 1024, 9, no_room_case),
     ("View: output too short", 256, 10, |store| (Call { output: 100, ..call(Name::View, 31, vec![]) }, store.to_vec())),
     ("Even grade: 65 sizes", 256, 11, |store| changed_grade(store, |call, _| call.n = 65)),
     ("Even grade: top a group", 256, 12, |store| {
@@ -230,6 +259,12 @@ fn changed_grade(store: &[u8], change: fn(&mut Call, &mut [u8])) -> (Call, Vec<u
 /// A call by the highest label on a path that is not in the store and ends in this label.
 fn new(name: Name, label: u8) -> Call {
     call(name, 31, vec![255, 255, label])
+}
+
+/// An insert for which five groups are missing, into a partition that has room for one element more.
+fn no_room_case(store: &[u8]) -> (Call, Vec<u8>) {
+    let (_, store) = insert_case(store, 31);
+    group_case(&mut Random::new(1), store, 31, GROUPS[1])
 }
 
 /// An insert into a store whose last byte is not zero.

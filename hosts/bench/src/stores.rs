@@ -36,6 +36,15 @@ pub fn new_path(random: &mut Random, store: &[u8], label: u8) -> Path {
     Path::new(&[parent.unwrap_or_default().steps(), &[step]].concat())
 }
 
+/// A path of so many steps of this label, the first of which nothing has yet.
+pub fn missing_path(random: &mut Random, store: &[u8], label: u8, depth: usize) -> Path {
+    let first = Step { name: 1 + random.below(65_535) as u16, label };
+    if partition(store, label).find(&Path::new(&[first])).is_ok() {
+        return missing_path(random, store, label, depth);
+    }
+    Path::of(depth, |at| if at == 0 { first } else { Step { name: at as u16, label } })
+}
+
 /// The path of some element of this label, if there is one.
 pub fn some_path(random: &mut Random, store: &[u8], label: u8) -> Option<Path> {
     let part = partition(store, label);

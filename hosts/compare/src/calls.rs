@@ -2,9 +2,9 @@
 use crate::intake::{self, Element, Style};
 use crate::label::{dominates, is_label};
 use crate::listing;
-use crate::partition::{self, SLOTS, STORE, dominated, partition};
+use crate::partition::{self, SLOT, SLOTS, STORE, dominated, partition};
 use crate::path::Path;
-use crate::value::Value;
+use crate::value::{GROUP, Value};
 use crate::xml;
 
 /// What every call but a grade answers: 0 or the number of its refusal, and its count.
@@ -62,7 +62,7 @@ pub fn view_xml(store: &[u8], subject: u32, path: &[u8], output: &mut [u8]) -> A
     answer(try_view_xml(store, subject, path, output))
 }
 
-/// Makes an element live.
+/// Makes an element live, and the groups above it that are missing.
 pub fn insert(store: &mut [u8], subject: u32, path: &[u8], kind: u32, value: &[u8]) -> Answer {
     answer(try_insert(store, subject, path, kind, value))
 }
@@ -108,22 +108,46 @@ fn try_view_xml(store: &[u8], subject: u32, path: &[u8], output: &mut [u8]) -> R
     xml::write(output, subject, &live, &path).ok_or(Refusal::Output)
 }
 
-/// The insert, or why it is refused.
+/// The insert, or why it is refused. Nothing of the subject's label extends the first group that is missing: the groups
+/// and the element stand together.
 fn try_insert(store: &mut [u8], subject: u32, path: &[u8], kind: u32, value: &[u8]) -> Result<usize, Refusal> {
     let subject = subject_of(store, subject)?;
     let path = element_path(path)?;
     Value::read(kind, value).ok_or(Refusal::Value)?;
     own_path(subject, &path)?;
-    if !is_in_view(store, subject, &path.parent()) {
-        return Err(Refusal::Absent);
-    }
     let own = partition(store, subject);
     let Err(at) = own.find(&path) else { return Err(Refusal::Live) };
-    if own.count() == SLOTS {
+    let seen = seen_steps(store, subject, &path, own.shared_before(at, &path))?;
+    let put = path.depth() - seen;
+    if own.count() + put > SLOTS {
         return Err(Refusal::Full);
     }
-    partition::put_slot(store, subject, at, &partition::slot_of(&path, kind as u8, value));
-    Ok(0)
+    let slots = (seen + 1..path.depth() + 1).map(|depth| put_in(&path, depth, kind, value));
+    partition::put_slots(store, subject, at, slots);
+    Ok(put - 1)
+}
+
+/// Row 7 of an insert: how many first steps of its path are in view, if all behind them bear the subject's label. These
+/// come last in a path, and of them those are in view that are live: what the path shares with an element of the
+/// subject tells them. If there are none, the steps before them have to be in view.
+fn seen_steps(store: &[u8], subject: u8, path: &Path, shared: usize) -> Result<usize, Refusal> {
+    let others = path.steps().iter().take_while(|step| step.label != subject).count();
+    if shared >= others {
+        Ok(shared)
+    } else if is_in_view(store, subject, &path.beginning(others)) {
+        Ok(others)
+    } else {
+        Err(Refusal::Absent)
+    }
+}
+
+/// What an insert puts in at one depth of its path: the element at the path's end, a group before it.
+fn put_in(path: &Path, depth: usize, kind: u32, value: &[u8]) -> [u8; SLOT] {
+    if depth == path.depth() {
+        partition::slot_of(path, kind as u8, value)
+    } else {
+        partition::slot_of(&path.beginning(depth), GROUP as u8, &[])
+    }
 }
 
 /// The update, or why it is refused.

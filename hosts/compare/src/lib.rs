@@ -1,6 +1,6 @@
 //! Document 01 as a Rust program: the store's bytes, the four calls, the printed view and the call runner; and of
-//! document 02 the view as XML, the update that keeps what is below, the even grade and XML intake. It is written
-//! from the documents alone and shares nothing with the product.
+//! document 02 the view as XML, the update that keeps what is below, the even grade, XML intake and the insert that makes
+//! the missing groups. It is written from the documents alone and shares nothing with the product.
 
 pub mod calls;
 mod intake;

@@ -153,6 +153,11 @@ impl<'a> Partition<'a> {
         self.counted().binary_search_by(|slot| Slot(slot).path().cmp(path))
     }
 
+    /// How many first steps the path shares with the slot before this place; none where no slot is before it.
+    pub fn shared_before(self, at: usize, path: &Path) -> usize {
+        self.counted()[..at].last().map_or(0, |slot| Slot(slot).path().shared(path))
+    }
+
     /// The slot of the path, if it stands here.
     pub fn held(self, path: &Path) -> Option<Slot<'a>> {
         self.find(path).ok().map(|at| Slot(&self.counted()[at]))
@@ -179,16 +184,6 @@ pub fn dominated(store: &[u8], subject: u8) -> impl Iterator<Item = Partition<'_
 /// The bytes of this label's partition, to be written.
 fn partition_mut(store: &mut [u8], label: u8) -> &mut [u8; PARTITION] {
     &mut store.as_chunks_mut().0[usize::from(label)]
-}
-
-/// Puts a slot into a partition that is not full, at this place.
-pub fn put_slot(store: &mut [u8], label: u8, at: usize, slot: &[u8; SLOT]) {
-    let bytes = partition_mut(store, label);
-    let count = usize::from(bytes[0]);
-    let slots = bytes[HEAD..].as_chunks_mut().0;
-    slots.copy_within(at..count, at + 1);
-    slots[at] = *slot;
-    bytes[0] += 1;
 }
 
 /// Puts slots into a partition that has room for all of them, one behind the other, from this place on.

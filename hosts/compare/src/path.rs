@@ -70,7 +70,12 @@ impl Path {
 
     /// The steps but for the last.
     pub fn parent(&self) -> Path {
-        Path { steps: self.steps, depth: self.depth.saturating_sub(1) }
+        self.beginning(self.depth().saturating_sub(1))
+    }
+
+    /// The first steps, so many of them.
+    pub fn beginning(&self, depth: usize) -> Path {
+        Path { steps: self.steps, depth: depth as u8 }
     }
 
     /// Adds a step, if there is room for it.

@@ -1,8 +1,9 @@
-//! Document 01's test cuts and examples of XML, of updates, of grades and of XML intake, run on the Rust program, and
-//! its well-formedness test, listing, XML, updates, grades and XML intake against plain definitions.
+//! Document 01's test cuts and examples of XML, of updates, of grades, of XML intake and of missing groups, run on the
+//! Rust program, and its well-formedness test, listing, XML, updates, grades, XML intake and inserts against plain
+//! definitions.
 use reference::label::{LABELS, dominates};
 use reference::partition::{PARTITION, partition};
-use reference::path::{Path, Step};
+use reference::path::{DEPTH, Path, Step};
 use reference::random::Random;
 use reference::value::{GROUP, MEASURE, TEXT, Value};
 use reference::{STORE, delete, grade, insert, insert_xml, script, update, view, view_xml};
@@ -16,6 +17,14 @@ fn path(steps: &[(u16, u8)]) -> Vec<u8> {
 /// Inserts a group: the answer's number.
 fn group(store: &mut [u8], subject: u32, steps: &[(u16, u8)]) -> u32 {
     insert(store, subject, &path(steps), 0, &[]).number
+}
+
+/// Inserts an element: the answer's number and count. After a refusal the store has its bytes of before.
+fn inserted(store: &mut [u8], subject: u32, steps: &[(u16, u8)], kind: u32, value: &[u8]) -> (u32, u64) {
+    let before = store.to_vec();
+    let answer = insert(store, subject, &path(steps), kind, value);
+    assert!(answer.number == 0 || store == before, "{subject} {steps:?}");
+    (answer.number, answer.count)
 }
 
 /// Updates an element: the answer's number and count.
@@ -653,6 +662,126 @@ fn xml_intake_does_what_the_document_says() {
         assert!((0..LABELS).all(|label| partition(&store, label).is_well_formed()));
     }
     assert!([0, 8, 9].iter().all(|number| met[*number] > 30), "{met:?}");
+}
+
+#[test]
+fn examples_of_missing_groups() {
+    let mut store = vec![0; STORE];
+    let mut measure = |subject, steps: &[(u16, u8)], number, count| {
+        let answer = inserted(&mut store, subject, steps, MEASURE, &1_i32.to_le_bytes());
+        assert_eq!(answer, (number, count), "{subject} {steps:?}");
+    };
+    measure(0, &[(10, 0), (20, 0), (30, 0)], 0, 2);
+    measure(0, &[(10, 0), (20, 0), (30, 0)], 8, 0);
+    measure(16, &[(10, 0), (21, 16), (22, 16), (23, 16)], 0, 2);
+    measure(16, &[(10, 0), (24, 0), (25, 16)], 7, 0);
+    measure(16, &[(11, 8), (12, 16)], 7, 0);
+    measure(16, &[(12, 16)], 0, 0);
+    measure(16, &[(12, 16), (1, 16), (2, 16), (3, 16), (4, 16), (5, 16)], 0, 4);
+    assert_eq!(seen(&store, 0), "VIEW 0 3;1 10 0 P G -;2 20 0 P G -;3 30 0 P M 1;");
+    assert_eq!(delete(&mut store, 0, &path(&[(10, 0)])).count, 3);
+    let one = 1_i32.to_le_bytes();
+    assert_eq!(inserted(&mut store, 16, &[(10, 0), (21, 16), (40, 16)], MEASURE, &one), (0, 0));
+    assert_eq!(inserted(&mut store, 0, &[(10, 0), (50, 0), (51, 0)], MEASURE, &one), (0, 2));
+    for name in 100..120 {
+        assert_eq!(inserted(&mut store, 16, &[(name, 16)], GROUP, &[]), (0, 0));
+    }
+    assert_eq!(partition(&store, 16).count(), 30);
+    assert_eq!(inserted(&mut store, 16, &[(200, 16), (1, 16), (2, 16)], GROUP, &[]), (9, 0));
+    assert_eq!(inserted(&mut store, 16, &[(201, 16), (1, 16), (2, 16)], GROUP, &[]), (9, 0));
+    assert_eq!(delete(&mut store, 16, &path(&[(119, 16)])).count, 1);
+    assert_eq!(inserted(&mut store, 16, &[(203, 16), (1, 16)], GROUP, &[]), (0, 1));
+    assert_eq!(inserted(&mut store, 16, &[(202, 16)], GROUP, &[]), (0, 0));
+    assert_eq!(partition(&store, 16).count(), 32);
+    assert!((0..LABELS).all(|label| partition(&store, label).is_well_formed()));
+}
+
+#[test]
+fn missing_groups_and_their_room() {
+    let deep = [(200, 16), (1, 16), (2, 16), (3, 16), (4, 16), (5, 16)];
+    for missing in 1..=5 {
+        let mut store = vec![0; STORE];
+        for name in 1..=31 - missing {
+            group(&mut store, 16, &[(name, 16)]);
+        }
+        let mut less = store.clone();
+        group(&mut less, 16, &[(100, 16)]);
+        let steps = &deep[..=usize::from(missing)];
+        assert_eq!(inserted(&mut less, 16, steps, TEXT, b"CUFF"), (9, 0));
+        assert_eq!(inserted(&mut store, 16, steps, TEXT, b"CUFF"), (0, missing.into()));
+        assert_eq!(partition(&store, 16).count(), 32);
+    }
+}
+
+#[test]
+fn a_removed_element_is_in_view() {
+    let mut store = vec![0; STORE];
+    group(&mut store, 0, &[(10, 0)]);
+    group(&mut store, 16, &[(10, 0), (20, 16)]);
+    delete(&mut store, 0, &path(&[(10, 0)]));
+    assert_eq!(inserted(&mut store, 9, &[(10, 0), (20, 9), (30, 9)], GROUP, &[]), (7, 0));
+    assert_eq!(inserted(&mut store, 16, &[(10, 0), (21, 16), (22, 16)], TEXT, b"CUFF"), (0, 1));
+    assert_eq!(seen(&store, 16), "VIEW 16 4;1 10 0 R - -;2 20 16 P G -;2 21 16 P G -;3 22 16 P T CUFF;");
+    assert_eq!(inserted(&mut store, 0, &[(10, 0), (40, 0)], TEXT, b"CUFF"), (0, 1));
+    assert_eq!(seen(&store, 0), "VIEW 0 2;1 10 0 P G -;2 40 0 P T CUFF;");
+}
+
+/// A path whose last label is the subject's: behind a beginning of an element's come up to six steps in all, now and then
+/// the first of them with the label before them.
+fn below_some(random: &mut Random, held: &[Path], subject: u8) -> Path {
+    let some = random.pick(held);
+    let some = some.beginning(random.below(some.depth()));
+    let mut path = if some.label().is_none_or(|label| dominates(subject, label)) { some } else { Path::default() };
+    let more = 1 + random.below(DEPTH - path.depth());
+    let others = if random.percent(15) { random.below(more) } else { 0 };
+    let low = path.label().unwrap_or(0);
+    for at in 0..more {
+        path.push(Step { name: 1 + random.below(4) as u16, label: if at < others { low } else { subject } });
+    }
+    path
+}
+
+/// What an insert answers by the document's words.
+fn insert_answer(before: &BTreeMap<Path, String>, missing: &[Path], subject: u8) -> (u32, u64) {
+    let held = before.keys().filter(|path| path.label() == Some(subject)).count();
+    match missing {
+        _ if missing.iter().any(|path| path.label() != Some(subject)) => (7, 0),
+        [] => (8, 0),
+        _ if held + missing.len() > 32 => (9, 0),
+        _ => (0, missing.len() as u64 - 1),
+    }
+}
+
+#[test]
+fn an_insert_makes_what_the_document_says() {
+    let mut random = Random::new(10);
+    let (mut met, mut made) = ([0; 10], [0; 6]);
+    for _ in 0..30 {
+        let mut store = grown(&mut random);
+        let subject = random.pick(&[0, 9, 16, 24, 31]);
+        for _ in 0..60 {
+            let before = elements(&store);
+            let held: Vec<Path> = before.keys().copied().collect();
+            let path = below_some(&mut random, &held, subject);
+            let listed = listed(&store, subject);
+            let prefixes = (1..=path.depth()).map(|depth| path.beginning(depth));
+            let missing: Vec<Path> = prefixes.filter(|prefix| !listed.contains_key(prefix)).collect();
+            let expected = insert_answer(&before, &missing, subject);
+            let answer = insert(&mut store, subject.into(), &path.bytes(), TEXT, b"CUFF");
+            assert_eq!((answer.number, answer.count), expected, "{subject} {path:?}");
+            met[expected.0 as usize] += 1;
+            let mut after = before;
+            if expected.0 == 0 {
+                made[missing.len() - 1] += 1;
+                after.extend(missing.iter().map(|prefix| (*prefix, format!("{:?}", Value::read(GROUP, &[])))));
+                after.insert(path, format!("{:?}", Value::read(TEXT, b"CUFF")));
+            }
+            assert_eq!(elements(&store), after);
+            assert!((0..LABELS).all(|label| partition(&store, label).is_well_formed()));
+        }
+    }
+    assert!([0, 7, 8, 9].iter().all(|number| met[*number] > 30), "{met:?}");
+    assert!(!made.contains(&0), "{made:?}");
 }
 
 #[test]

@@ -44,6 +44,11 @@ The even grade from this sleeve to a wider one in three sizes, 1000 being 3 × 3
     >>> store.grade(house_subject, sleeve, wider, 3)
     Grade(step=333, remainder=1)
 
+A measure that comes before its piece; the missing group is made, and counted:
+
+    >>> store.insert(house_subject, [Step(40, house_subject), Step(1, house_subject)], Measure(3900))
+    1
+
 A style sent as XML, all of it at once, a group with a measure inside it, and the same read back:
 
     >>> cuff = '<e4 label="16" preserve="PRESENT" kind="M">2400</e4>'

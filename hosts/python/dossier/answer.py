@@ -67,9 +67,9 @@ class Refusal(IntEnum):
     PATH = 4  # the path is none, or it is the root's and the call is no view, no grade and no XML intake; of a grade, either path
     VALUE = 5  # the kind, or the value's length or bytes, are not allowed
     OTHER_LABEL = 6  # the path's last label is not the subject's
-    ABSENT = 7  # the path of a view or a grade, or the parent of what comes, is not in view, or the element is not live
+    ABSENT = 7  # a path or a parent is not in view, a missing step of an insert has another label, or the element is not live
     LIVE = 8  # the element of an insert, or the top element of an XML intake, is live already
-    FULL = 9  # the subject's partition holds 32 elements, or would hold more with those of an XML intake
+    FULL = 9  # with the element and its missing groups, or with those of an XML intake, the partition would hold more than 32
     OUTPUT_SHORT = 10  # the output is shorter than the listing or the XML
     SIZES = 11  # the number of sizes of a grade is not 1 to 64
     NO_MEASURE = 12  # both paths of a grade are in view, and either is no live measure's

@@ -107,7 +107,8 @@ def view_xml(store, subject, path, output):
 
 
 def insert(store, subject, path, kind, value):
-    """Makes one live element with a value, in the subject's partition. Count: 0."""
+    """Makes one live element with a value, in the subject's partition, and the missing groups above it. Count: how many groups
+    were made."""
     return _bring(_library.dossier_insert, store, subject, path, kind, value)
 
 

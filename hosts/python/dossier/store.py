@@ -29,7 +29,9 @@ class Store:
         return read_xml(bytes(memoryview(room).cast("B")[:count]))
 
     def insert(self, subject, path, value):
-        """Makes one live element with a value; its parent must be in view, be it removed. The count: 0."""
+        """Makes one live element with a value. Where its parent is not in view, the missing groups above it are made too; they
+        must bear the subject's label, else the insert is refused by 7. All of them are made, or none. The count: how many groups
+        were made, 0 where the parent was in view, be it removed."""
         return raw.insert(self.buffer, subject.number, path_bytes(path), value.kind, value.to_bytes()).outcome()
 
     def update(self, subject, path, value):

@@ -9,8 +9,8 @@ use std::fmt;
 pub struct Answer {
     /// 0 if the call is done, else the number of the refusal.
     pub number: u32,
-    /// The bytes that a view wrote, the elements that a delete took or an XML intake made, or 1 for the element that an update
-    /// replaced; else 0.
+    /// The bytes that a view wrote, the elements that a delete took or an XML intake made, the missing groups that an insert made,
+    /// or 1 for the element that an update replaced; else 0.
     pub count: u64,
 }
 
@@ -76,12 +76,13 @@ pub enum Refusal {
     Value = 5,
     /// 6: the path's last label is not the subject's.
     OtherLabel = 6,
-    /// 7: the path of a view, the parent of an insert or an XML intake or either path of a grade is not in view, or the element of
-    /// an update or a delete is not live.
+    /// 7: the path of a view, the parent of an XML intake or either path of a grade is not in view, the parent of an insert is not
+    /// in view and one of the missing steps does not bear the subject's label, or the element of an update or a delete is not live.
     Absent = 7,
     /// 8: the element of an insert, or the top element of an XML intake, is live already.
     Live = 8,
-    /// 9: the subject's partition holds 32 elements, or would hold more with those of an XML intake.
+    /// 9: the subject's partition would hold more than 32 elements: with the element of an insert and its missing groups, or with
+    /// those of an XML intake.
     Full = 9,
     /// 10: the output is shorter than the listing or the XML.
     OutputShort = 10,

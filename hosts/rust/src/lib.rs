@@ -49,6 +49,10 @@
 //! store.insert(house, &wider, Value::Measure(850))?;
 //! assert_eq!(store.grade(house, &sleeve, &wider, 3)?, Grade { step: 333, remainder: 1 });
 //!
+//! // A measure that comes before its piece: the missing group is made.
+//! let collar = Path::root().child(40, house).child(1, house);
+//! assert_eq!(store.insert(house, &collar, Value::Measure(3900))?, 1);
+//!
 //! // A style sent as XML, all of it at once: a group with a measure inside it.
 //! let cuff = r#"<e4 label="16" preserve="PRESENT" kind="M">2400</e4>"#;
 //! let sent = format!(r#"<e30 label="16" preserve="PRESENT" kind="G">{cuff}</e30>"#);

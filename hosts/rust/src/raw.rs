@@ -95,7 +95,8 @@ pub fn view_xml(store: &[u8], subject: u32, path: &[u8], output: &mut [u8]) -> A
     }
 }
 
-/// Makes one live element with a value, in the subject's partition. Count: 0.
+/// Makes one live element with a value, in the subject's partition, and the missing groups above it. Count: how many groups were
+/// made.
 pub fn insert(store: &mut [u8], subject: u32, path: &[u8], kind: u32, value: &[u8]) -> Answer {
     // SAFETY: each pointer reaches as many bytes as its length says; the store overlaps nothing, being a `&mut`.
     unsafe {

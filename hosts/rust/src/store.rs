@@ -82,7 +82,9 @@ impl Store<'_> {
         str::from_utf8(written).map_err(|_| Error::Unreadable)
     }
 
-    /// Makes one live element with a value; its parent must be in view, be it removed. The count: 0.
+    /// Makes one live element with a value. Where its parent is not in view, the missing groups above it are made too; they must
+    /// bear the subject's label, else the insert is refused by 7. All of them are made, or none. The count: how many groups were
+    /// made, 0 where the parent was in view, be it removed.
     pub fn insert(&mut self, subject: Label, path: &Path, value: Value<'_>) -> Result<u64, Error> {
         let bytes = self.as_mut_bytes();
         let answer =

@@ -1,5 +1,5 @@
 //! The calls through the package: document 01's example, every refusal, what is left untouched, what an update keeps, XML read
-//! back, grades, and styles taken in as XML.
+//! back, grades, styles taken in as XML, and missing groups.
 
 use dossier::{
     raw, Answer, Error, Grade, GradeAnswer, Label, Line, Mark, Path, Refusal, Store, Value, LISTING_BYTES_MAX, PARTITION_BYTES,
@@ -14,6 +14,9 @@ const P10: &[u8] = &[10, 0, 0];
 const P10_20: &[u8] = &[10, 0, 0, 20, 0, 16];
 const P10_30: &[u8] = &[10, 0, 0, 30, 0, 0];
 const P10_16: &[u8] = &[10, 0, 16];
+
+/// A group of label 0 as XML.
+const GROUP_0: &str = r#"<e4 label="0" preserve="PRESENT" kind="G"></e4>"#;
 
 /// The last listing of document 01's example.
 const LISTING: &[u8] = b"VIEW\t16\t2\n1\t10\t0\tR\t-\t-\n2\t20\t16\tP\tM\t-150\n";
@@ -69,7 +72,7 @@ fn each_call(path: &[u8]) -> [Call<'_>; 7] {
         Call::Insert(path, 0, &[]),
         Call::Update(path, 0, &[]),
         Call::Delete(path),
-        Call::InsertXml(path, r#"<e4 label="0" preserve="PRESENT" kind="G"></e4>"#),
+        Call::InsertXml(path, GROUP_0),
     ]
 }
 
@@ -196,6 +199,52 @@ fn deletes_count_what_they_take() {
     assert!(store.as_bytes() == Store::empty().as_bytes());
 }
 
+/// The path of six steps of label 16, the first of this name.
+fn deep(name: u16) -> Path {
+    path(&[(name, 16), (1, 16), (2, 16), (3, 16), (4, 16), (5, 16)])
+}
+
+#[test]
+fn an_insert_makes_the_missing_groups() {
+    let mut store = Store::empty();
+    let measure = Value::Measure(1);
+    assert_eq!(store.insert(label(0), &path(&[(10, 0), (20, 0), (30, 0)]), measure), Ok(2));
+    assert_eq!(seen(&store, 0), "VIEW\t0\t3\n1\t10\t0\tP\tG\t-\n2\t20\t0\tP\tG\t-\n3\t30\t0\tP\tM\t1\n");
+    assert_eq!(store.insert(label(0), &path(&[(10, 0), (20, 0), (30, 0)]), measure), refused(Refusal::Live));
+    assert_eq!(store.insert(label(16), &path(&[(10, 0), (21, 16), (22, 16), (23, 16)]), measure), Ok(2));
+    assert_eq!(store.insert(label(16), &path(&[(12, 16)]), measure), Ok(0));
+    assert_eq!(store.insert(label(16), &deep(12), measure), Ok(4));
+    assert_eq!(store.delete(label(0), &path(&[(10, 0)])), Ok(3));
+    assert_eq!(store.insert(label(16), &path(&[(10, 0), (21, 16), (40, 16)]), measure), Ok(0));
+    assert_eq!(store.insert(label(0), &path(&[(10, 0), (50, 0), (51, 0)]), measure), Ok(2));
+    assert_eq!(seen(&store, 0), "VIEW\t0\t3\n1\t10\t0\tP\tG\t-\n2\t50\t0\tP\tG\t-\n3\t51\t0\tP\tM\t1\n");
+    assert_eq!(store.insert(label(16), &deep(13), Value::Group), Ok(5));
+}
+
+#[test]
+fn missing_steps_of_another_label_are_refused_by_7() {
+    let mut store = Store::empty();
+    assert_refused(store.as_mut_bytes(), 16, Call::Insert(&[11, 0, 8, 12, 0, 16], 0, &[]), 7);
+    assert_eq!(store.insert(label(0), &path(&[(10, 0)]), Value::Group), Ok(0));
+    assert_refused(store.as_mut_bytes(), 16, Call::Insert(&[10, 0, 0, 24, 0, 0, 25, 0, 16, 26, 0, 16], 0, &[]), 7);
+    assert_refused(store.as_mut_bytes(), 0, Call::Update(&[10, 0, 0, 24, 0, 0], 0, &[]), 7);
+    assert_refused(store.as_mut_bytes(), 0, Call::InsertXml(&[10, 0, 0, 24, 0, 0], GROUP_0), 7);
+}
+
+#[test]
+fn missing_groups_without_room_are_refused_by_9() {
+    let mut store = Store::empty();
+    for name in 100..130 {
+        assert_eq!(store.insert(label(16), &path(&[(name, 16)]), Value::Group), Ok(0));
+    }
+    assert_refused(store.as_mut_bytes(), 16, Call::Insert(&[200, 0, 16, 1, 0, 16, 2, 0, 16], 0, &[]), 9);
+    assert_eq!(store.insert(label(16), &path(&[(200, 16), (1, 16), (2, 16)]), Value::Group), refused(Refusal::Full));
+    assert_eq!(store.delete(label(16), &path(&[(129, 16)])), Ok(1));
+    assert_eq!(store.insert(label(16), &path(&[(203, 16), (1, 16)]), Value::Group), Ok(1));
+    assert_eq!(store.insert(label(16), &path(&[(202, 16)]), Value::Group), Ok(0));
+    assert_eq!(store.insert(label(16), &path(&[(201, 16)]), Value::Group), refused(Refusal::Full));
+}
+
 #[test]
 fn a_borrowed_store_is_written_in_place() {
     let mut bytes = vec![0; STORE_BYTES];
@@ -286,9 +335,10 @@ fn refusal_5_kind_on_all_its_bits_and_value() {
 #[test]
 fn refusals_6_7_and_8_of_the_place() {
     let mut store = Store::empty();
-    for call in each_call(P10_30) {
+    for call in each_call(P10_30).into_iter().filter(|call| !matches!(call, Call::Insert(..))) {
         assert_refused(store.as_mut_bytes(), 0, call, 7);
     }
+    assert_refused(store.as_mut_bytes(), 16, Call::Insert(P10_20, 0, &[]), 7);
     assert_eq!(store.insert(label(0), &path(&[(10, 0)]), Value::Group), Ok(0));
     assert_eq!(store.insert(label(16), &path(&[(10, 16)]), Value::Group), Ok(0));
     for call in each_call(P10).into_iter().skip(3).take(3) {

@@ -261,18 +261,29 @@ fn line(random: &mut Random, mix: &Mix, store: &[u8]) -> Vec<u8> {
     fields.into_bytes()
 }
 
-/// A path one step longer, or one of one step now and then and where it would be too deep. Its label mostly dominates
-/// the one before.
+/// A path one step longer, or one of one step now and then and where it would be too deep. Now and then it is longer by
+/// more steps.
 fn child(random: &mut Random, mix: &Mix, parent: &Path) -> Path {
     let top = parent.depth() == DEPTH || random.percent(40);
-    let parent = if top { Path::default() } else { *parent };
-    let above = |label: &u8| parent.label().is_none_or(|low| dominates(*label, low));
-    let labels: Vec<u8> = mix.labels.iter().copied().filter(above).collect();
+    let mut path = if top { Path::default() } else { *parent };
+    let more = if random.percent(25) { 1 + random.below(DEPTH - path.depth()) } else { 1 };
+    let mut label = label_below(random, mix, &path);
+    for at in 0..more {
+        if at > 0 && random.percent(10) {
+            label = label_below(random, mix, &path);
+        }
+        let name = 1 + random.below(60_000) as u16;
+        path.push(Step { name: random.pick(&[1, 2, 9, 255, 256, name, name, name]), label });
+    }
+    path
+}
+
+/// A label for a step behind a path: it mostly dominates the last one.
+fn label_below(random: &mut Random, mix: &Mix, above: &Path) -> u8 {
+    let dominating = |label: &u8| above.label().is_none_or(|low| dominates(*label, low));
+    let labels: Vec<u8> = mix.labels.iter().copied().filter(dominating).collect();
     let any = labels.is_empty() || random.percent(3);
-    let label = random.pick(if any { &mix.labels } else { &labels });
-    let name = 1 + random.below(60_000) as u16;
-    let step = Step { name: random.pick(&[1, 2, 9, 255, 256, name, name, name]), label };
-    Path::new(&[parent.steps(), &[step]].concat())
+    random.pick(if any { &mix.labels } else { &labels })
 }
 
 /// A path as a script has it. Now and then it has a step more or an odd number.

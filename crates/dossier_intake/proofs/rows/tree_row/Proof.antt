@@ -2,8 +2,8 @@
 use borrow.Author.Needs.{needs}
 use Rattle.model.proofs.Dominance.{dominates-refl}
 use Rattle.store.proofs.Lending.{own-part}
-use Rattle.table.proofs.Walking.{opened-own}
-use Rattle.dossier_intake.proofs.Placing.{row-unseen, row-there, own-few, row-full, row-free}
+use Rattle.table.proofs.Walking.{opened-own, own-few}
+use Rattle.dossier_intake.proofs.Placing.{row-unseen, row-there, row-full, row-free}
 use Rattle.dossier_intake.proofs.rows.tree_row.Statement.{statement}
 use Rattle.dossier_intake.proofs.rows.tree_row.Tie as tie
 

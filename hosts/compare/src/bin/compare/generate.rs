@@ -1,6 +1,6 @@
 //! Random calls: most go by what the store holds, some are invalid in one or more ways.
 use crate::side::{Call, Name};
-use crate::stores::{name, valid_path, valid_value};
+use crate::stores::{label_between, name, valid_path, valid_value};
 use crate::texts;
 use reference::STORE;
 use reference::label::{LABELS, dominates};
@@ -85,10 +85,13 @@ fn intake(random: &mut Random, store: &[u8], preferred: Option<u8>) -> Call {
 }
 
 /// The subject, the parent and the top element's name of an XML intake: mostly a new child of something held, now and
-/// then something held.
+/// then something held, or something whose parent is missing.
 fn intake_aim(random: &mut Random, store: &[u8], preferred: Option<u8>) -> (u32, Vec<u8>, u16) {
-    let (subject, path) =
-        if random.percent(85) { child_aim(random, store, preferred) } else { own_aim(&beginning(random, store, 1)) };
+    let (subject, path) = match random.below(20) {
+        0..16 => child_aim(random, store, preferred),
+        16 => deep_aim(random, store, preferred),
+        _ => own_aim(&beginning(random, store, 1)),
+    };
     match path.split_last_chunk() {
         Some((parent, [low, high, _])) => (subject, parent.to_vec(), u16::from_le_bytes([*low, *high]).max(1)),
         None => (subject, path, 1),
@@ -144,11 +147,13 @@ fn seen_aim(random: &mut Random, path: &Path) -> Aim {
     (subject.into(), path.bytes())
 }
 
-/// A new child of something held, or something held that may be removed, or any path.
+/// A new child of something held, or something below it whose parent is missing, or something held that may be removed,
+/// or any path.
 fn insert_aim(random: &mut Random, store: &[u8], preferred: Option<u8>) -> Aim {
-    match random.below(10) {
-        0..7 => child_aim(random, store, preferred),
-        7 | 8 => own_aim(&beginning(random, store, 1)),
+    match random.below(12) {
+        0..6 => child_aim(random, store, preferred),
+        6..9 => deep_aim(random, store, preferred),
+        9 | 10 => own_aim(&beginning(random, store, 1)),
         _ => {
             let label = preferred.unwrap_or_else(|| random.below(32) as u8);
             own_aim(&valid_path(random, label))
@@ -159,10 +164,31 @@ fn insert_aim(random: &mut Random, store: &[u8], preferred: Option<u8>) -> Aim {
 /// A new child of something held. Now and then it is too deep.
 fn child_aim(random: &mut Random, store: &[u8], preferred: Option<u8>) -> Aim {
     let parent = beginning(random, store, 0);
-    let above = label_above(random, end_label(&parent));
-    let subject = preferred.filter(|label| dominates(*label, end_label(&parent))).unwrap_or(above);
+    let subject = subject_below(random, &parent, preferred);
     let step = Path::new(&[Step { name: name(random), label: subject }]);
     (subject.into(), [parent.bytes(), step.bytes()].concat())
+}
+
+/// Something two to six steps below something held, or below the root: all of these steps have the subject's label, or
+/// now and then those up to some place have one below it.
+fn deep_aim(random: &mut Random, store: &[u8], preferred: Option<u8>) -> Aim {
+    let held = beginning(random, store, 0);
+    let above = if held.depth() + 2 > DEPTH || random.percent(25) { Path::default() } else { held };
+    let subject = subject_below(random, &above, preferred);
+    let more = 2 + random.below(DEPTH - 1 - above.depth());
+    let others = if random.percent(20) { 1 + random.below(more - 1) } else { 0 };
+    let lower = label_between(random, end_label(&above), subject);
+    let mut steps = above.steps().to_vec();
+    for at in 0..more {
+        steps.push(Step { name: name(random).max(1), label: if at < others { lower } else { subject } });
+    }
+    (subject.into(), Path::new(&steps).bytes())
+}
+
+/// The subject of something new below a path: the preferred label, if it dominates the path's, or any that does.
+fn subject_below(random: &mut Random, above: &Path, preferred: Option<u8>) -> u8 {
+    let any = label_above(random, end_label(above));
+    preferred.filter(|label| dominates(*label, end_label(above))).unwrap_or(any)
 }
 
 /// This path, for the subject of its label.

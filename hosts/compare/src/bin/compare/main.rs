@@ -2,6 +2,7 @@
 mod faults;
 mod generate;
 mod grade_faults;
+mod group_faults;
 mod intake_faults;
 mod lent;
 mod robust;
@@ -31,6 +32,9 @@ const NUMBERS: [(Name, &[usize]); 7] = [
     (Name::InsertXml, &[0, 1, 2, 3, 4, 7, 8, 9, 13, 14]),
 ];
 
+/// The most groups that an insert can make.
+const GROUPS_MAX: usize = 5;
+
 /// How many bytes of a text are printed at most.
 const SHOWN: usize = 4000;
 
@@ -59,6 +63,8 @@ struct Course {
     corruptions: u64,
     texts: u64,
     tally: Tally,
+    /// How many inserts made no group, one, and so on.
+    made: [u64; GROUPS_MAX + 1],
 }
 
 /// The two stores of an episode.
@@ -109,16 +115,18 @@ fn compare(plan: &Plan) -> bool {
         print_difference(plan.seed, &difference);
         return false;
     }
-    let Course { calls, episodes, corruptions, texts, tally } = &course;
+    let Course { calls, episodes, corruptions, texts, tally, made } = &course;
     println!("{calls} calls in {episodes} episodes, {corruptions} corruptions, {texts} texts tried, no difference");
     print_tally(tally);
-    plan.episode.is_some() || plan.robust || plan.calls == 0 || is_complete(&course.tally)
+    println!("inserts that made 0 to {GROUPS_MAX} groups: {made:?}");
+    plan.episode.is_some() || plan.robust || plan.calls == 0 || is_complete(&course.tally) && !made.contains(&0)
 }
 
 /// Compares the product with each fault: whether every fault is found.
 fn find_faults(plan: &Plan) -> bool {
     let mut all = true;
-    for (name, side) in faults::FAULTS.into_iter().chain(intake_faults::FAULTS) {
+    let faults = faults::FAULTS.into_iter().chain(group_faults::FAULTS).chain(intake_faults::FAULTS);
+    for (name, side) in faults {
         all &= is_found(name, |course| course.run(plan.seed, plan.calls, side));
     }
     for (name, side) in intake_faults::LONG_FAULTS {
@@ -260,6 +268,9 @@ impl Course {
     fn count(&mut self, call: &Call, answer: Answer) {
         self.calls += 1;
         self.tally[call.name as usize][answer.number as usize] += 1;
+        if (call.name, answer.number) == (Name::Insert, 0) {
+            self.made[answer.count as usize] += 1;
+        }
     }
 }
 

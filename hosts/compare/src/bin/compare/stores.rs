@@ -15,7 +15,7 @@ pub fn name(random: &mut Random) -> u16 {
 }
 
 /// A label that dominates the first and that the second dominates; the second must dominate the first.
-fn label_between(random: &mut Random, low: u8, high: u8) -> u8 {
+pub fn label_between(random: &mut Random, low: u8, high: u8) -> u8 {
     let between: Vec<u8> = (0..LABELS).filter(|label| dominates(*label, low) && dominates(high, *label)).collect();
     random.pick(&between)
 }
@@ -112,12 +112,12 @@ pub fn filled(random: &mut Random, bound: usize) -> Vec<u8> {
     store
 }
 
-/// A store whose partitions are full, but for some that lack one element.
+/// A store whose partitions are full, but for some that lack up to six elements.
 fn full(random: &mut Random) -> Vec<u8> {
     let mut store = vec![0; STORE];
     for label in 0..LABELS {
-        let count = SLOTS - usize::from(random.percent(20));
-        put_well_formed(random, &mut store, label, count);
+        let lacking = random.pick(&[0, 0, 0, 0, 0, 1, 1, 1, 2, 3, 4, 5, 6]);
+        put_well_formed(random, &mut store, label, SLOTS - lacking);
     }
     store
 }

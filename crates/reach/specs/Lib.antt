@@ -1,0 +1,3 @@
+-- What the contracts of this crate cite beside the model.
+pub mod Before
+pub mod Shared
