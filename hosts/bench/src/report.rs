@@ -80,8 +80,8 @@ impl Report {
         let above: Vec<&Row> = self.rows().filter(|row| row.is_above()).collect();
         let grown = self.growth.iter().flat_map(|growth| [growth.view, growth.test]);
         let mut text = format!(
-            "The bar is 1.00 for View, as lines and as XML, the even grade, XML intake and the well-formedness test, and 1.20 for\n\
-             the others.\n\
+            "The bar is 1.00 for View, as lines and as XML, the even grade, XML intake, inserts that make groups and the\n\
+             well-formedness test, and 1.20 for the others.\n\
              Above it are {} of the {} rows of the first table and {} of the {} ratios of the second.{}\n",
             above.len(),
             self.rows().count(),
