@@ -21,7 +21,7 @@ use Rattle.model.proofs.Slots.{allowed-length}
 use Rattle.model.proofs.Rows.{Passes, passes-append, row-applies, rows-stop, rows-behind, rows-pass}
 use Rattle.model.proofs.Keeps.{open-valid}
 use Rattle.model.proofs.Groups as model
-use Rattle.model.proofs.Groups.{missing-count, Lacking, rows-placed, placed-lacking}
+use Rattle.model.proofs.Groups.{Lacking, rows-placed, placed-lacking}
 use Rattle.model.proofs.Operations.{Brought, rows-brought, brought-valid}
 use Rattle.path.proofs.Steps.{length-steps, good-path}
 use Rattle.store.specs.Opened.{Opened, Vacant}
@@ -33,6 +33,7 @@ use Rattle.table.specs.Owned.{Owns}
 use Rattle.table.specs.Placed.{Places}
 use Rattle.table.proofs.Walking.{opened-own}
 use Rattle.table.proofs.Owning.{own-refused, own-passes}
+use Rattle.table.proofs.Coming.{missing-lent}
 use Rattle.table.proofs.Looking.{Looks}
 use Rattle.promise.specs.Did.{Acted}
 use Rattle.promise.proofs.Doing.{acted-refused, acted-done}
@@ -102,7 +103,7 @@ module _ (s : ℕ) (b p : List ℕ) (c : Content) (o : Opened b s) {j : ℕ} (f 
 
       -- the groups are as many as the steps between
       missing : length (missingPaths (seenSteps (visible s (openModel b)) (stepsOf p)) (stepsOf p)) ≡ length p / 3 - 1 - n
-      missing = missing-count (seenSteps (visible s (openModel b)) (stepsOf p)) (stepsOf p) ∙ rw (← (found .2), length-steps p)
+      missing = missing-lent (visible s (openModel b)) p (found .2)
 
       pub insert-short : n < length p / 3
       insert-short = omega (arith, lacks .short, length-steps p)

@@ -20,7 +20,7 @@ use Rattle.model.proofs.Prefixes.{prefix-take}
 use Rattle.model.proofs.Partitions.{ValidSet, well-formed, yes-well-formed, read-valid, read-layout, layout-well-formed}
 use Rattle.model.proofs.Sets.{fresh, put-valid}
 use Rattle.model.proofs.Taking.{Comes}
-use Rattle.model.proofs.Groups.{steps-take, groups-last, groups-next, group-storable, lacking-comes, lacking-next}
+use Rattle.model.proofs.Groups.{steps-first, groups-last, groups-next, group-storable, lacking-comes, lacking-next}
 use Rattle.path.specs.Common.{isBefore}
 use Rattle.path.proofs.Steps.{length-steps}
 use Rattle.partition.specs.Place.{Formed, placeOf, Room}
@@ -38,7 +38,7 @@ groupContent = record { kind = 0; value = [] }
 pub first-steps : (path : List ℕ) (k : ℕ) → stepsOf (take (3 * k + 3 - 0) (drop 0 path)) ≡ take (suc k) (stepsOf path)
 first-steps path k =
     let n : 3 * k + 3 - 0 ≡ 3 * suc k = omega arith in
-    ap (λ (i : ℕ). stepsOf (take i path)) n ∙ steps-take (suc k) path
+    steps-first (suc k) path n
 
 module _ {x : List ℕ} {p : List Step} {slot k : ℕ} {c : Content} (v : Vacant x p slot k c) where
   abbrev es : List Element

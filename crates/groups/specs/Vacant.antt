@@ -6,10 +6,7 @@ use lib.ListN.{length}
 use lib.Dec.{T}
 use Rattle.model.specs.Path.{Step}
 use Rattle.model.specs.Value.{Content, storable}
-use Rattle.model.specs.Element.{Element}
 use Rattle.model.specs.Partition.{readPartition, wellFormed}
-use Rattle.model.specs.Intake.{withAll}
-use Rattle.model.specs.Groups.{withGroups}
 use Rattle.model.proofs.Groups.{Lacking}
 use Rattle.partition.specs.Place.{placeOf}
 
@@ -21,7 +18,3 @@ pub record Vacant (x : List ℕ) (p : List Step) (at n : ℕ) (c : Content) : Ty
   pub place : at ≡ placeOf p (readPartition x)
   pub content : T (storable c)
   pub room : length (readPartition x) + (length p - n) ≤ 32
-
--- the set with the element, and the groups that are missing behind the first n steps of its path
-abbrev pub made : ℕ → List Step → Content → List Element → List Element
-made n p c es = withAll (withGroups n p c) es

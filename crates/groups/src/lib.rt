@@ -4,7 +4,8 @@ ghost use Prim.Native.Nat.{_≤_};
 ghost use lib.ListN.{length};
 ghost use Rattle.model.specs.Path.{stepsOf};
 ghost use Rattle.model.specs.Partition.{layout, readPartition};
-ghost use Rattle.groups.specs.Vacant.{Vacant, made};
+ghost use Rattle.model.specs.Groups.{made};
+ghost use Rattle.groups.specs.Vacant.{Vacant};
 
 // Puts the groups that are missing behind the first steps of a path, and the element, into a partition from slot at on, a parent before
 // its child.

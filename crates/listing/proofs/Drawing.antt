@@ -18,6 +18,7 @@ use Rattle.model.specs.Value.{Content, allowed, storable}
 use Rattle.model.specs.Element.{Element, validElement}
 use Rattle.model.specs.Slot.{depth, stepAt, valueLength, readPath, readContent, readSlot}
 use Rattle.model.specs.View.{contentAt, pathLine}
+use Rattle.model.proofs.Prefixes.{length-prefixes, prefix-at}
 use Rattle.model.proofs.Lists.{take-range}
 use Rattle.model.proofs.Bools.{and-l, and-r, cond-yes, cond-no, is-true}
 use Rattle.model.proofs.Dominance.{label-lt}
@@ -28,7 +29,6 @@ use Rattle.slot.proofs.Reading.{length-path, storable-short, short-steps}
 use Rattle.line.specs.Line.{lineOf}
 use Rattle.line.proofs.Widths.{line-short}
 use Rattle.listing.specs.Used.{Used, linesFrom}
-use Rattle.listing.proofs.Newer.{prefix-at, length-prefixes}
 
 -- ---- what is known of a used slot
 

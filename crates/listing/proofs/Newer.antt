@@ -2,9 +2,9 @@
 use mathlib.Core.Path.{_≡_, refl, sym, ap, subst, _∙_}
 use mathlib.Core.Bool.{Bool, true, false, not, cond, _&&_}
 use mathlib.Core.List.{List, [], _∷_, map}
-use Prim.Native.Nat.{ℕ, zero, suc, _-_, _≤_, _<_}
+use Prim.Native.Nat.{ℕ, suc, _-_, _≤_, _<_}
 use native.Mathlib.Omega.{arith}
-use lib.ListN.{length, take, drop, length-drop}
+use lib.ListN.{length, drop, length-drop}
 use lib.Seq.{drop-nil}
 use lib.Dec.{T}
 use mir.Facts.{eqb-yes}
@@ -14,7 +14,8 @@ use Rattle.model.specs.Path.{Step, sameStep, isPrefix, prefixes, parent, key, p
 use Rattle.model.proofs.Bools.{decide, cond-yes, cond-no, is-true, is-false}
 use Rattle.model.proofs.Order.{precedes-cancel}
 use Rattle.model.proofs.Paths.{step-eq, step-refl, key-keyed, prefix-first}
-use Rattle.model.proofs.Prefixes.{prefix-length, parent-above, parent-shorter}
+use Rattle.model.proofs.Lists.{drop-map}
+use Rattle.model.proofs.Prefixes.{prefix-length, length-prefixes, parent-above, parent-shorter}
 use Rattle.path.specs.Common.{common}
 use Rattle.path.proofs.Common.{common-prefix}
 use Rattle.listing.specs.Walk.{newer}
@@ -41,30 +42,6 @@ keep-ext s t (x ∷ l) h = rw (h x, keep-ext s t l h)
 keep-all : {A : Type 0} (l : List A) → keep (λ x. true) l ≡ l
 keep-all [] = refl
 keep-all (x ∷ l) = ap (λ z. x ∷ z) (keep-all l)
-
-drop-map : {A B : Type 0} (f : A → B) (n : ℕ) (l : List A) → drop n (map f l) ≡ map f (drop n l)
-drop-map f zero l = refl
-drop-map f (suc n) [] = refl
-drop-map f (suc n) (x ∷ l) = drop-map f n l
-
-length-map : {A B : Type 0} (f : A → B) (l : List A) → length (map f l) ≡ length l
-length-map f [] = refl
-length-map f (x ∷ l) = ap suc (length-map f l)
-
--- ---- prefixes by their lengths
-
-pub length-prefixes : (q : List Step) → length (prefixes q) ≡ length q
-length-prefixes [] = refl
-length-prefixes (a ∷ q) = ap suc (length-map (λ x. a ∷ x) (prefixes q) ∙ length-prefixes q)
-
--- the prefixes from one of d + 1 steps on
-pub prefix-at : (d : ℕ) (q : List Step) → d < length q → drop d (prefixes q) ≡ take (suc d) q ∷ drop (suc d) (prefixes q)
-prefix-at d [] h = absurd (omega arith)
-prefix-at zero (a ∷ q) h = refl
-prefix-at (suc d) (a ∷ q) h =
-    drop-map (λ x. a ∷ x) d (prefixes q)
-    ∙ ap (map (λ x. a ∷ x)) (prefix-at d q (omega arith))
-    ∙ ap (λ (z : List (List Step)). (a ∷ take (suc d) q) ∷ z) (sym (drop-map (λ x. a ∷ x) (suc d) (prefixes q)))
 
 -- ---- what is new, by the steps shared
 

@@ -1,5 +1,5 @@
 -- An insert that makes groups: how many steps of a path are in view, what is missing behind them, and that the set stays valid with it.
-use mathlib.Core.Path.{_≡_, refl, sym, ap, subst, _∙_}
+use mathlib.Core.Path.{_≡_, refl, ap, subst, _∙_}
 use mathlib.Core.Logic.{_⊎_, inl, inr}
 use mathlib.Core.Bool.{Bool, not}
 use mathlib.Core.List.{List, [], _∷_, map}
@@ -27,7 +27,7 @@ use Rattle.model.proofs.Lists.{all-take}
 use Rattle.model.proofs.Dominance.{dominates-refl}
 use Rattle.model.proofs.Order.{put-in, in-put, put-new}
 use Rattle.model.proofs.Paths.{prefix-refl, prefix-trans, prefix-parent}
-use Rattle.model.proofs.Prefixes.{prefix-length, prefix-take, length-parent}
+use Rattle.model.proofs.Prefixes.{prefix-length, prefix-take, length-parent, length-prefixes, prefix-at, parent-take, take-parent}
 use Rattle.model.proofs.Partitions.{ValidSet}
 use Rattle.model.proofs.Sets.{contains-in, in-contains, contains-more, fresh}
 use Rattle.model.proofs.Rows.{Passes}
@@ -96,7 +96,7 @@ pub take-prefix : (j k : ℕ) (p : List Step) → j ≤ k → T (isPrefix (take 
 take-prefix j k p h = subst (λ (q : List Step). T (isPrefix q (take k p))) (take-take j k p h) (prefix-take j (take k p))
 
 -- the first n steps of a path given as bytes
-pub steps-take : (n : ℕ) (b : List ℕ) → stepsOf (take (3 * n) b) ≡ take n (stepsOf b)
+steps-take : (n : ℕ) (b : List ℕ) → stepsOf (take (3 * n) b) ≡ take n (stepsOf b)
 steps-take zero b = refl
 steps-take (suc n) b = let e : 3 * suc n ≡ suc (suc (suc (3 * n))) = omega arith in rw e (go b (λ d. steps-take n d))
   where
@@ -106,6 +106,10 @@ steps-take (suc n) b = let e : 3 * suc n ≡ suc (suc (suc (3 * n))) = omega ari
     go (x ∷ []) r = refl
     go (x ∷ y ∷ []) r = refl
     go (x ∷ y ∷ z ∷ d) r = ap (λ (q : List Step). record { name = x + 256 * y; label = z } ∷ q) (r d)
+
+-- as they are lent
+pub steps-first : (k : ℕ) (b : List ℕ) {j : ℕ} → j ≡ 3 * k → stepsOf (take j (drop 0 b)) ≡ take k (stepsOf b)
+steps-first k b e = ap (λ (i : ℕ). stepsOf (take i b)) e ∙ steps-take k b
 
 module _ (v : List Element) (p : List Step) where
   -- at most all
@@ -145,39 +149,6 @@ module _ (v : List Element) (p : List Step) where
 
 -- ---- what is missing
 
-drop-map : {A B : Type 0} (f : A → B) (n : ℕ) (l : List A) → drop n (map f l) ≡ map f (drop n l)
-drop-map f zero l = refl
-drop-map f (suc n) [] = refl
-drop-map f (suc n) (x ∷ l) = drop-map f n l
-
-length-prefixes : (p : List Step) → length (prefixes p) ≡ length p
-length-prefixes [] = refl
-length-prefixes (a ∷ p) = ap suc (length-map (prefixes p) (λ q. a ∷ q) ∙ length-prefixes p)
-
--- behind the first n prefixes stands that of n + 1 steps
-prefixes-next : (p : List Step) (n : ℕ) → n < length p → drop n (prefixes p) ≡ take (suc n) p ∷ drop (suc n) (prefixes p)
-prefixes-next [] n h = absurd (omega arith)
-prefixes-next (a ∷ p) zero h = refl
-prefixes-next (a ∷ p) (suc n) h =
-    drop-map (λ q. a ∷ q) n (prefixes p)
-    ∙ ap (map (λ q. a ∷ q)) (prefixes-next p n (omega arith))
-    ∙ ap (λ (l : List (List Step)). (a ∷ take (suc n) p) ∷ l) (sym (drop-map (λ q. a ∷ q) (suc n) (prefixes p)))
-
--- the parent has all steps but the last
-pub parent-take : (p : List Step) → parent p ≡ take (length p - 1) p
-parent-take [] = refl
-parent-take (a ∷ []) = refl
-parent-take (a ∷ b ∷ p) =
-    let n : length (a ∷ b ∷ p) - 1 ≡ suc (length (b ∷ p) - 1) = omega arith in
-    ap (λ (q : List Step). a ∷ q) (parent-take (b ∷ p)) ∙ ap (λ (k : ℕ). take k (a ∷ b ∷ p)) (sym n)
-
--- so has that of the first n + 1 steps
-take-parent : (p : List Step) (n : ℕ) → suc n ≤ length p → parent (take (suc n) p) ≡ take n p
-take-parent p n h =
-    let l : length (take (suc n) p) ≡ suc n = length-take-le (suc n) p h in
-    let k : length (take (suc n) p) - 1 ≡ n = omega arith in
-    parent-take (take (suc n) p) ∙ ap (λ (j : ℕ). take j (take (suc n) p)) k ∙ take-take n (suc n) p (omega arith)
-
 module _ (n : ℕ) (p : List Step) where
   -- nothing where the parent is in view
   pub missing-none : length p ≤ suc n → missingPaths n p ≡ []
@@ -191,7 +162,7 @@ module _ (n : ℕ) (p : List Step) where
   unfolding missingPaths
   missing-next h =
       let l : length (parent p) ≡ length p - 1 = length-parent p in
-      prefixes-next (parent p) n (omega arith)
+      prefix-at n (parent p) (omega arith)
       ∙ ap (λ (q : List Step). q ∷ drop (suc n) (prefixes (parent p))) (ap (take (suc n)) (parent-take p) ∙ take-take (suc n) (length p - 1) p (omega arith))
 
   -- how many paths
@@ -284,7 +255,7 @@ module _ {s : ℕ} {es : List Element} {p : List Step} {n : ℕ} (l : Lacking s 
 
   -- a prefix of the first n + 1 steps is these, or a prefix of the first n
   near : (q : List Step) → T (isPrefix q (take (suc n) p)) → (q ≡ take (suc n) p) ⊎ T (isPrefix q (take n p))
-  near q t = rw (take-parent p n (omega (arith, l .short))) at (prefix-parent q (take (suc n) p) t)
+  near q t = rw (take-parent n p (l .short)) at (prefix-parent q (take (suc n) p) t)
 
   -- an element may come there
   pub lacking-comes : (c : Content) → T (storable c) → Comes s es (next c)

@@ -1,7 +1,7 @@
 -- Parts of lists, lists of a fixed width, zeros and ranges.
 use mathlib.Core.Path.{_≡_, refl, sym, ap, ap₂, _∙_}
 use mathlib.Core.Bool.{Bool, true, _&&_, and-assoc}
-use mathlib.Core.List.{List, [], _∷_, _++_, append-assoc}
+use mathlib.Core.List.{List, [], _∷_, _++_, map, append-assoc}
 use Prim.Native.Nat.{ℕ, zero, suc, _+_, _-_, _≤_, _<_}
 use native.Mathlib.Nat.{sub-zero, zero-sub, suc-sub-suc}
 use native.Mathlib.Omega.{arith}
@@ -218,3 +218,9 @@ module _ {A : Type 0} where
       let x : i + suc k ≡ suc i + k = omega arith in
       let y : suc n - suc k ≡ n - k = omega arith in
       rw (x, y) (ap (λ (l : List A). g i ∷ l) (range-split g (suc i) k n (omega arith)))
+
+-- what is left of a list of images
+pub drop-map : {A B : Type 0} (f : A → B) (n : ℕ) (l : List A) → drop n (map f l) ≡ map f (drop n l)
+drop-map f zero l = refl
+drop-map f (suc n) [] = refl
+drop-map f (suc n) (x ∷ l) = drop-map f n l

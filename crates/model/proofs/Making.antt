@@ -25,11 +25,11 @@ use Rattle.model.specs.Run.{answerOf, storeAfter, writeSet}
 use Rattle.model.proofs.Bools.{both, not-not, yes-not-not, cond-yes, cond-no, same-test}
 use Rattle.model.proofs.Rows.{Passes, passes, passes-both, refusal-past, refusal-behind}
 use Rattle.model.proofs.Paths.{prefix-refl, prefix-trans}
-use Rattle.model.proofs.Prefixes.{prefix-take}
+use Rattle.model.proofs.Prefixes.{prefix-take, parent-take}
 use Rattle.model.proofs.Sets.{contains-in}
 use Rattle.model.proofs.Keeps.{ValidSets}
 use Rattle.model.proofs.Taking.{with-old, with-new, with-in}
-use Rattle.model.proofs.Groups.{seen-above, seen-below, take-prefix, parent-take, missing-none, missing-next, groups-last, groups-next, Lacking, lacking-coming, rows-placed, placed-lacking}
+use Rattle.model.proofs.Groups.{seen-above, seen-below, take-prefix, missing-none, missing-next, groups-last, groups-next, Lacking, lacking-coming, rows-placed, placed-lacking}
 use Rattle.model.proofs.Operations.{rows-brought, brought-valid, admitted}
 use Rattle.model.proofs.Refusals.{set-done}
 
@@ -133,24 +133,21 @@ seen-as-before w p c m t =
     go none = ap done (parent-makes (subjectOf w) m (stepsOf p) t c)
     go (some k) = refl
 
--- so does one that was accepted: what it answers, and the store that it leaves
+-- so does one that was accepted: it answers as it did and leaves the same store
 pub accepted-as-before : (w : Caller) (p : List ℕ) (c : Content) (b : List ℕ) → refusal (tableBefore w p c (openModel b)) ≡ none
-    → (answerOf (inserting w p c) b ≡ done (effectBefore p c (subjectOf w) (openModel b)) .answer)
-    × (storeAfter (inserting w p c) b ≡ writeSet (subjectOf w) (some (added (stepsOf p) c (ownSet (subjectOf w) (openModel b)))) b)
-unfolding answerOf storeAfter done changes
-accepted-as-before w p c b e = (ap (λ (x : Outcome). x .answer) whole, ap (λ (x : Outcome). writeSet (subjectOf w) (x .change) b) whole)
+    → (answerOf (inserting w p c) b ≡ outcomeBefore w p c (openModel b) .answer)
+    × (storeAfter (inserting w p c) b ≡ writeSet (subjectOf w) (outcomeBefore w p c (openModel b) .change) b)
+unfolding answerOf storeAfter
+accepted-as-before w p c b e = (ap (λ (x : Outcome). x .answer) same, ap (λ (x : Outcome). writeSet (subjectOf w) (x .change) b) same)
   where
-    seen : T (inView (subjectOf w) (openModel b) (parent (stepsOf p)))
-    seen =
+    same : outcome (inserting w p c) (openModel b) ≡ outcomeBefore w p c (openModel b)
+    same =
         let m : Model = openModel b in
         let rows : List Row = bringRows p c ++ placeRowsBefore (subjectOf w) m (stepsOf p) in
         let h : Passes (tableBefore w p c m) = passes (tableBefore w p c m) e in
         let q = passes-both (callerRows w (insert p c)) (labelRows (subjectOf w) ++ (formedRows (subjectOf w) m ++ rows)) (h .1) .1 in
         let r = passes-both (bringRows p c) (placeRowsBefore (subjectOf w) m (stepsOf p)) (q .1 .1) .1 in
-        not-not (inView (subjectOf w) m (parent (stepsOf p))) (r .1 .0)
-
-    whole : outcome (inserting w p c) (openModel b) ≡ done (effectBefore p c (subjectOf w) (openModel b))
-    whole = seen-as-before w p c (openModel b) seen ∙ ap (λ (r : Option ℕ). beforeBy r p c (subjectOf w) (openModel b)) e
+        seen-as-before w p c m (not-not (inView (subjectOf w) m (parent (stepsOf p))) (r .1 .0))
 
 -- ---- what is missing
 

@@ -1,11 +1,11 @@
 -- Prefixes: their lengths, two prefixes of one path, the parent of a prefix, and where a prefix stands in path order.
-use mathlib.Core.Path.{_≡_, refl, ap₂, subst}
+use mathlib.Core.Path.{_≡_, refl, sym, ap, ap₂, subst, _∙_}
 use mathlib.Core.Logic.{_⊎_, inl, inr}
 use mathlib.Core.Bool.{not}
 use mathlib.Core.List.{List, [], _∷_, map, List·Memᴰ·cases-cons, List·Memᴰ·not-nil}
 use Prim.Native.Nat.{ℕ, zero, suc, _-_, _≤_, _<_}
 use native.Mathlib.Omega.{arith}
-use lib.ListN.{length, take}
+use lib.ListN.{length, take, drop, length-map}
 use lib.Dec.{T, ltb}
 use mir.Facts.{ltb-yes, ltb-no, T-not}
 use Rattle.model.specs.Lists.{_∈_}
@@ -13,6 +13,7 @@ use Rattle.model.specs.Sets.{precedes}
 use Rattle.model.specs.Path.{Step, sameStep, samePath, isPrefix, prefixes, parent, key, pathRank}
 use Rattle.model.proofs.Bools.{and-l, and-r, both, decide}
 use Rattle.model.proofs.Members.{map-in}
+use Rattle.model.proofs.Lists.{drop-map}
 use Rattle.model.proofs.Order.{precedes-irrefl}
 use Rattle.model.proofs.Paths.{step-eq, step-refl, same-eq, same-refl, prefix-refl, prefix-trans, prefixes-in, key-keyed, prefix-first, parent-prefix}
 
@@ -105,3 +106,33 @@ prefix-of-longer p x q s t h = go (prefix-line p x q s t)
     go : T (isPrefix x p) ⊎ T (isPrefix p x) → T (isPrefix p x)
     go (inl m) = rw (prefix-whole x p m h) (prefix-refl p)
     go (inr m) = m
+
+-- ---- prefixes by their lengths
+
+pub length-prefixes : (q : List Step) → length (prefixes q) ≡ length q
+length-prefixes [] = refl
+length-prefixes (a ∷ q) = ap suc (length-map (prefixes q) (λ x. a ∷ x) ∙ length-prefixes q)
+
+-- the prefixes from one of d + 1 steps on
+pub prefix-at : (d : ℕ) (q : List Step) → d < length q → drop d (prefixes q) ≡ take (suc d) q ∷ drop (suc d) (prefixes q)
+prefix-at d [] h = absurd (omega arith)
+prefix-at zero (a ∷ q) h = refl
+prefix-at (suc d) (a ∷ q) h =
+    drop-map (λ x. a ∷ x) d (prefixes q)
+    ∙ ap (map (λ x. a ∷ x)) (prefix-at d q (omega arith))
+    ∙ ap (λ (z : List (List Step)). (a ∷ take (suc d) q) ∷ z) (sym (drop-map (λ x. a ∷ x) (suc d) (prefixes q)))
+
+-- the parent has all steps but the last
+pub parent-take : (p : List Step) → parent p ≡ take (length p - 1) p
+parent-take [] = refl
+parent-take (a ∷ []) = refl
+parent-take (a ∷ b ∷ p) =
+    let n : length (a ∷ b ∷ p) - 1 ≡ suc (length (b ∷ p) - 1) = omega arith in
+    ap (λ (q : List Step). a ∷ q) (parent-take (b ∷ p)) ∙ ap (λ (k : ℕ). take k (a ∷ b ∷ p)) (sym n)
+
+-- so that of the first d + 1 steps has the first d
+pub take-parent : (d : ℕ) (q : List Step) → d < length q → parent (take (suc d) q) ≡ take d q
+take-parent d [] h = absurd (omega arith)
+take-parent zero (a ∷ q) h = refl
+take-parent (suc d) (a ∷ []) h = absurd (omega arith)
+take-parent (suc d) (a ∷ b ∷ q) h = ap (λ (l : List Step). a ∷ l) (take-parent d (b ∷ q) (omega arith))

@@ -16,7 +16,7 @@ use Rattle.model.specs.Xml.{xmlView}
 use Rattle.model.specs.Tree.{Forest, entries}
 use Rattle.model.specs.Intake.{elementsOf, withAll}
 use Rattle.model.specs.Grade.{measureAt, stepOf, remainderOf}
-use Rattle.model.specs.Groups.{seenSteps, missingPaths, withGroups}
+use Rattle.model.specs.Groups.{seenSteps, missingPaths, made}
 use Rattle.model.specs.Rows.{Row, refusal, sizeRows, labelRows, formedRows, pathRows, lookRows, bringRows, ownLiveRows, placeRows, roomRows, askedRows, measuredRows, viewPathRows, sentRows, takeRows}
 
 -- who calls
@@ -116,13 +116,13 @@ changes r es = record { result = r; written = []; change = some es }
 unfoldable pub extending : List Step → List Element → ℕ
 extending p es = length (keep (λ e. isPrefix p (e .path)) es)
 
--- the set with the path and a content
+-- the set with the path and a content, put in alone
 unfoldable pub added : List Step → Content → List Element → List Element
 added p c es = put rank (record { path = p; content = c }) es
 
 -- the groups that are missing behind the first n steps of the path are made, and the element comes; the groups are counted
 unfoldable pub makes : ℕ → List Step → Content → List Element → Effect
-makes n p c es = changes (count (length (missingPaths n p))) (withAll (withGroups n p c) es)
+makes n p c es = changes (count (length (missingPaths n p))) (made n p c es)
 
 -- the set in which the element at the path has another content, and each other element is as it was
 unfoldable pub replaced : List Step → Content → List Element → List Element

@@ -9,6 +9,7 @@ use Rattle.model.specs.Path.{Step, prefixes, parent}
 use Rattle.model.specs.Value.{Content}
 use Rattle.model.specs.Element.{Element}
 use Rattle.model.specs.View.{reaches}
+use Rattle.model.specs.Intake.{withAll}
 
 -- the greatest number up to n that passes, 0 if none does
 abbrev pub greatest : (ℕ → Bool) → ℕ → ℕ
@@ -31,3 +32,7 @@ missingPaths n p = drop n (prefixes (parent p))
 unfoldable pub withGroups : ℕ → List Step → Content → List Element
 withGroups n p c =
     map (λ q. record { path = q; content = record { kind = 0; value = [] } }) (missingPaths n p) ++ (record { path = p; content = c } ∷ [])
+
+-- the set with all of them
+abbrev pub made : ℕ → List Step → Content → List Element → List Element
+made n p c es = withAll (withGroups n p c) es

@@ -1,19 +1,19 @@
 -- Two paths compared step by step: what they share, which comes first, and whether one is a prefix of the other.
 use mathlib.Core.Path.{_≡_, refl, sym, ap, ap₂, _∙_}
-use mathlib.Core.Bool.{Bool, true, false, cond, _&&_}
+use mathlib.Core.Bool.{Bool, true, false, not, cond, _&&_}
 use mathlib.Core.List.{List, [], _∷_}
 use Prim.Native.Nat.{ℕ, suc, _+_, _-_, _≤_, _<_, min}
 use native.Mathlib.Omega.{arith}
 use native.Mathlib.Decide.{decLt}
 use borrow.Author.Tests.{eq-eqb, ne-eqb, lt-ltb, le-ltb}
-use lib.ListN.{length}
+use lib.ListN.{length, take}
 use lib.Dec.{T, eqb, leb, ltb, eqb·suc-suc, eqb·zero-suc, eqb·suc-zero, leb·zero, leb·suc-zero, leb·suc-suc}
 use mir.Facts.{eqb-yes, yes-eqb}
 use Rattle.model.specs.Lists.{range}
 use Rattle.model.specs.Path.{Step, sameStep, samePath, isPrefix, parent, key, pathRank}
-use Rattle.model.proofs.Bools.{same-test}
+use Rattle.model.proofs.Bools.{both, decide, is-true, is-false, same-test}
 use Rattle.model.proofs.Order.{precedes-cancel}
-use Rattle.model.proofs.Paths.{step-eq}
+use Rattle.model.proofs.Paths.{step-eq, step-refl}
 use Rattle.model.proofs.Walks.{rest, rest-more, rest-end}
 use Rattle.path.specs.Steps.{KeyOf}
 use Rattle.path.specs.Common.{common, isBefore, Compared}
@@ -186,3 +186,18 @@ common-turned [] [] = refl
 common-turned [] (b ∷ q) = refl
 common-turned (a ∷ p) [] = refl
 common-turned (a ∷ p) (b ∷ q) = ap₂ (λ (t : Bool) (n : ℕ). cond t (suc n) 0) (step-turned a b) (common-turned p q)
+
+-- the shared steps are at most those of the second path
+pub common-second : (p q : List Step) → common p q ≤ length q
+common-second p q = omega (arith, common-turned p q, common-first q p)
+
+-- so many first steps of the second path are a prefix of the first
+pub common-take : (p q : List Step) → T (isPrefix (take (common p q) q) p)
+common-take [] q = tt
+common-take (a ∷ p) [] = tt
+common-take (a ∷ p) (b ∷ q) =
+    decide (sameStep a b)
+    (λ (t : T (sameStep a b)).
+    rw (is-true (sameStep a b) t)
+    (both (sameStep b a) (isPrefix (take (common p q) q) p) (rw (step-eq a b t) (step-refl b)) (common-take p q)))
+    (λ (t : T (not (sameStep a b))). rw (is-false (sameStep a b) t) tt)

@@ -10,39 +10,24 @@ use lib.Seq.{length-take-le}
 use lib.Dec.{T}
 use mir.Facts.{not-T, T-not}
 use Rattle.model.specs.Path.{Step, sameStep, isPrefix, key, pathRank}
-use Rattle.model.proofs.Bools.{and-l, and-r, both, decide, is-true, is-false}
+use Rattle.model.proofs.Bools.{and-l, and-r, both, is-true}
 use Rattle.model.proofs.Order.{precedes-trans}
-use Rattle.model.proofs.Paths.{step-eq, step-refl, key-keyed, between-extends}
+use Rattle.model.proofs.Paths.{step-eq, key-keyed, between-extends}
 use Rattle.model.proofs.Prefixes.{prefix-take, prefix-before}
 use Rattle.path.specs.Common.{common, isBefore}
-use Rattle.path.proofs.Common.{common-first, common-turned}
+use Rattle.path.proofs.Common.{common-turned, common-second, common-take}
 
 -- ---- a prefix of both
 
--- the shared steps are at most those of the second path
-pub common-second : (p q : List Step) → common p q ≤ length q
-common-second p q = omega (arith, common-turned p q, common-first q p)
-
--- so many first steps of the second path are a prefix of the first
-pub common-take : (p q : List Step) → T (isPrefix (take (common p q) q) p)
-common-take [] q = tt
-common-take (a ∷ p) [] = tt
-common-take (a ∷ p) (b ∷ q) =
-    decide (sameStep a b)
-    (λ (t : T (sameStep a b)).
-    rw (is-true (sameStep a b) t)
-    (both (sameStep b a) (isPrefix (take (common p q) q) p) (rw (step-eq a b t) (step-refl b)) (common-take p q)))
-    (λ (t : T (not (sameStep a b))). rw (is-false (sameStep a b) t) tt)
-
 -- no prefix of both is longer
-pub prefix-common : (x p q : List Step) → T (isPrefix x p) → T (isPrefix x q) → length x ≤ common p q
-prefix-common [] p q s t = omega arith
-prefix-common (c ∷ x) [] q s t = absurd s
-prefix-common (c ∷ x) (a ∷ p) [] s t = absurd t
-prefix-common (c ∷ x) (a ∷ p) (b ∷ q) s t =
+pub common-most : (x p q : List Step) → T (isPrefix x p) → T (isPrefix x q) → length x ≤ common p q
+common-most [] p q s t = omega arith
+common-most (c ∷ x) [] q s t = absurd s
+common-most (c ∷ x) (a ∷ p) [] s t = absurd t
+common-most (c ∷ x) (a ∷ p) (b ∷ q) s t =
     let e : c ≡ a = step-eq c a (and-l (sameStep c a) (isPrefix x p) s) in
     let same : T (sameStep a b) = rw (← e) (and-l (sameStep c b) (isPrefix x q) t) in
-    let l : length x ≤ common p q = prefix-common x p q (and-r (sameStep c a) (isPrefix x p) s) (and-r (sameStep c b) (isPrefix x q) t) in
+    let l : length x ≤ common p q = common-most x p q (and-r (sameStep c a) (isPrefix x p) s) (and-r (sameStep c b) (isPrefix x q) t) in
     rw (is-true (sameStep a b) same) (omega arith)
 
 -- ---- a path between two
@@ -67,8 +52,8 @@ module _ (p f q : List Step) (low : T (not (isBefore f p))) (high : T (not (isBe
 
   -- and shares them with the first
   pub between-first : common q p ≤ common f p
-  between-first = omega (arith, common-turned q p, shared-length, prefix-common (take (common p q) q) f p between-prefix (common-take p q))
+  between-first = omega (arith, common-turned q p, shared-length, common-most (take (common p q) q) f p between-prefix (common-take p q))
 
   -- and with the second
   pub between-second : common p q ≤ common f q
-  between-second = omega (arith, shared-length, prefix-common (take (common p q) q) f q between-prefix (prefix-take (common p q) q))
+  between-second = omega (arith, shared-length, common-most (take (common p q) q) f q between-prefix (prefix-take (common p q) q))

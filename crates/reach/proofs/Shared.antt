@@ -24,10 +24,11 @@ use Rattle.model.proofs.Order.{precedes-irrefl, precedes-asym}
 use Rattle.model.proofs.Prefixes.{prefix-take}
 use Rattle.model.proofs.Groups.{reaches-of, reaches-more, seen-is}
 use Rattle.path.specs.Common.{common, isBefore, Compared}
+use Rattle.path.proofs.Common.{common-second, common-take}
 use Rattle.partition.specs.Place.{Formed, placeOf}
 use Rattle.partition.proofs.Finding.{elementAt, elements-range, length-read, formed-sorted}
 use Rattle.reach.specs.Shared.{sharedAt, sharedBefore}
-use Rattle.reach.proofs.Between.{common-second, common-take, prefix-common, between-first, between-second}
+use Rattle.reach.proofs.Between.{common-most, between-first, between-second}
 
 -- ---- the elements beside a place
 
@@ -153,7 +154,7 @@ beside-seen p es s =
     (λ k h g t.
     let l : length (take k p) ≡ k = length-take-le k p g in
     let r : (e : Element) × (e ∈ es) × T (isPrefix (take k p) (e .path)) = reached-by es (take k p) (omega arith) t in
-    let c : length (take k p) ≤ common (r .0 .path) p = prefix-common (take k p) (r .0 .path) p (r .2) (prefix-take k p) in
+    let c : length (take k p) ≤ common (r .0 .path) p = common-most (take k p) (r .0 .path) p (r .2) (prefix-take k p) in
     let n : common (r .0 .path) p ≤ beside p es = nearest p es s (r .0) (r .1) in
     omega arith)
 

@@ -7,9 +7,9 @@ ghost use Rattle.model.specs.Element.{remove};
 ghost use Rattle.model.specs.Partition.{layout};
 ghost use Rattle.model.specs.Store.{replace};
 ghost use Rattle.model.specs.Model.{openModel, ownSet};
+ghost use Rattle.model.specs.Groups.{made};
 ghost use Rattle.model.specs.Call.{extending};
 ghost use Rattle.partition.specs.Place.{placeOf, replacedAt};
-ghost use Rattle.groups.specs.Vacant.{made};
 ghost use Rattle.store.specs.Opened.{Own, Vacant};
 
 // Removes the path, which stands from slot at on, and all that extends it from the subject's partition: how many elements went.

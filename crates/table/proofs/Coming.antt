@@ -27,7 +27,7 @@ use Rattle.model.proofs.Sets.{contains-in}
 use Rattle.model.proofs.Restriction.{live-own}
 use Rattle.model.proofs.Rows.{row-applies, rows-behind, rows-end}
 use Rattle.model.proofs.Keeps.{open-valid, in-visible, in-view-own}
-use Rattle.model.proofs.Groups.{reaches-of, reaches-more, steps-take, seen-few, seen-reached, seen-above, seen-below, seen-is, seen-all, seen-short, missing-count}
+use Rattle.model.proofs.Groups.{reaches-of, reaches-more, steps-first, seen-few, seen-reached, seen-above, seen-below, seen-is, seen-all, seen-short, missing-count}
 use Rattle.path.proofs.Steps.{length-steps}
 use Rattle.partition.specs.Place.{Formed, placeOf, Found}
 use Rattle.reach.specs.Before.{stepsBefore}
@@ -43,6 +43,11 @@ use Rattle.table.proofs.Walking.{told-yes, told-no, failed, held, opene
 pub good-valid : (p : List ℕ) → T (goodPath p) → T (validPath (stepsOf p))
 unfolding goodPath
 good-valid p t = and-r (eqb (length p % 3) 0) (validPath (stepsOf p)) t
+
+-- the groups that are missing behind n steps in view of a lent path are the steps between
+pub missing-lent : (v : List Element) (p : List ℕ) {n : ℕ} → n ≡ seenSteps v (stepsOf p)
+    → length (missingPaths (seenSteps v (stepsOf p)) (stepsOf p)) ≡ length p / 3 - 1 - n
+missing-lent v p e = missing-count (seenSteps v (stepsOf p)) (stepsOf p) ∙ rw (← e, length-steps p)
 
 -- ---- how many steps are in view
 
@@ -116,7 +121,7 @@ module _ {b : List ℕ} {s : ℕ} {p : List ℕ} {more lower : ℕ} (f : Searche
 
     -- the first steps as they are lent
     lent-lower : stepsOf (take (3 * lower - 0) (drop 0 p)) ≡ take lower path
-    lent-lower = let n : 3 * lower - 0 ≡ 3 * lower = omega arith in ap (λ (i : ℕ). stepsOf (take i p)) n ∙ steps-take lower p
+    lent-lower = let n : 3 * lower - 0 ≡ 3 * lower = omega arith in steps-first lower p n
 
     pub other-asked : {w : Bool} → w ≡ inView s m (stepsOf (take (3 * lower - 0) (drop 0 p))) → not w ≡ not (ownBehind s (seenSteps seen path) path)
     unfolding inView
@@ -226,9 +231,6 @@ module _ {s : ℕ} {b p : List ℕ} {at : ℕ} (a : Absent b s p at) {x : List �
             let few : seenSteps (visible s (openModel b)) (stepsOf p) < length (stepsOf p) = seen-short s (openModel b) (open-valid b) (stepsOf p) (a .ends) (a .lacks) in
             omega (arith, place-seen, length-steps p)
 
-        missing : length (missingPaths (seenSteps (visible s (openModel b)) (stepsOf p)) (stepsOf p)) ≡ length p / 3 - 1 - n
-        missing = missing-count (seenSteps (visible s (openModel b)) (stepsOf p)) (stepsOf p) ∙ rw (← place-seen, length-steps p)
-
         module _ {c : ℕ} (l : (c ≡ count x) × (c < 256)) where
           -- the elements that are there and those that come
           full : ℕ
@@ -236,7 +238,7 @@ module _ {s : ℕ} {b p : List ℕ} {at : ℕ} (a : Absent b s p at) {x : List �
 
           full-is : full ≡ c + (length p / 3 - n)
           unfolding full
-          full-is = omega (arith, counted (a .opened) g l, missing, place-short)
+          full-is = omega (arith, counted (a .opened) g l, missing-lent (visible s (openModel b)) p place-seen, place-short)
 
           -- too few slots are free
           pub place-nine : 32 - c < length p / 3 - n → Places (Refused 9) s b (stepsOf p)

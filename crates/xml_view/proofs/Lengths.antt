@@ -16,6 +16,7 @@ use Rattle.model.specs.Text.{decimal}
 use Rattle.model.specs.View.{visible, contentAt, below, seenBelow}
 use Rattle.model.specs.Tree.{Forest, empty, element, grown, Entry, entries, forest}
 use Rattle.model.specs.Xml.{startTag, endTag, contentXml, xml, outerTag, document, xmlOf, xmlView}
+use Rattle.model.proofs.Prefixes.{length-prefixes, prefix-at}
 use Rattle.model.proofs.Bools.{and-l, and-r}
 use Rattle.model.proofs.Slots.{valid-fits}
 use Rattle.model.proofs.Trees.{last-longer, forest-listed}
@@ -23,7 +24,6 @@ use Rattle.path.specs.Common.{common}
 use Rattle.text.proofs.Widths.{decimal-width}
 use Rattle.xml.proofs.Widths.{outer-length}
 use Rattle.listing.specs.Walk.{walkOf}
-use Rattle.listing.proofs.Newer.{prefix-at, length-prefixes}
 use Rattle.listing.proofs.Drawing.{last-valid, content-shorter}
 use Rattle.listing.proofs.Walks.{Rest, rest-start, rest-new, rest-next}
 use Rattle.listing.proofs.Visible.{visible-valid, visible-distinct}

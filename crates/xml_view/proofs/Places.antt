@@ -17,6 +17,7 @@ use Rattle.model.specs.Element.{Element, rank}
 use Rattle.model.specs.Slot.{depth, stepAt, readPath, readSlot}
 use Rattle.model.specs.View.{contentAt}
 use Rattle.model.specs.Tree.{Entry}
+use Rattle.model.proofs.Prefixes.{length-prefixes, prefix-at}
 use Rattle.model.proofs.Bools.{and-l, and-r, decide, same-test}
 use Rattle.model.proofs.Lists.{all-getD}
 use Rattle.path.specs.Common.{common, Compared}
@@ -27,7 +28,7 @@ use Rattle.order.proofs.Naming.{ref-valid}
 use Rattle.listing.specs.Walk.{walkOf}
 use Rattle.listing.specs.Used.{Used}
 use Rattle.listing.proofs.Drawing.{last-step}
-use Rattle.listing.proofs.Newer.{prefix-at, length-prefixes, newer-drop, common-less}
+use Rattle.listing.proofs.Newer.{newer-drop, common-less}
 use Rattle.xml_view.specs.Places.{entryAt, shown, leftOf, left, entryOf, opens, Place, At}
 
 -- ---- what is left of the elements

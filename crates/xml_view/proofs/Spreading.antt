@@ -9,17 +9,17 @@ use lib.Seq.{take-add, take-all, length-take-le}
 use lib.Dec.{T, ltb}
 use mir.Facts.{ltb-yes, ltb-no}
 use Rattle.model.specs.Lists.{gather, _∈_}
-use Rattle.model.specs.Path.{Step, sameStep, isPrefix, prefixes, parent}
+use Rattle.model.specs.Path.{Step, isPrefix, prefixes, parent}
 use Rattle.model.specs.Element.{Element}
 use Rattle.model.specs.View.{listed, below}
 use Rattle.model.specs.Tree.{Entry, entries, shownBelow, forest}
-use Rattle.model.proofs.Bools.{both, decide, cond-yes, cond-no}
-use Rattle.model.proofs.Paths.{step-eq, step-refl, prefix-refl, prefix-trans, parent-prefix}
-use Rattle.model.proofs.Prefixes.{prefix-length, prefix-of-longer, length-parent}
+use Rattle.model.proofs.Bools.{decide}
+use Rattle.model.proofs.Paths.{prefix-refl, prefix-trans, parent-prefix}
+use Rattle.model.proofs.Prefixes.{prefix-length, prefix-of-longer, length-parent, length-prefixes, prefix-at, take-parent}
 use Rattle.model.proofs.Trees.{one-longer, grown-entries, shown-branch, forest-only}
 use Rattle.path.specs.Common.{common}
+use Rattle.path.proofs.Common.{common-take}
 use Rattle.listing.specs.Walk.{walkOf}
-use Rattle.listing.proofs.Newer.{prefix-at, length-prefixes}
 use Rattle.listing.proofs.Walks.{Distinct, Rest, rest-start, rest-new, rest-next}
 use Rattle.listing.proofs.Printed.{walk-shown}
 use Rattle.xml_view.specs.Nested.{inner, contents}
@@ -96,24 +96,6 @@ contents-entries (suc n) r q (e ∷ es) l t w g =
 
 -- ---- the walk goes stepwise
 
-parent-take : (d : ℕ) (q : List Step) → d < length q → parent (take (suc d) q) ≡ take d q
-parent-take d [] h = absurd (omega arith)
-parent-take zero (a ∷ q) h = refl
-parent-take (suc d) (a ∷ []) h = absurd (omega arith)
-parent-take (suc d) (a ∷ b ∷ q) h = ap (λ (l : List Step). a ∷ l) (parent-take d (b ∷ q) (omega arith))
-
--- the steps shared with r are a prefix of r
-shared-prefix : (r q : List Step) → T (isPrefix (take (common r q) q) r)
-shared-prefix [] [] = tt
-shared-prefix [] (b ∷ q) = tt
-shared-prefix (a ∷ r) [] = tt
-shared-prefix (a ∷ r) (b ∷ q) =
-    decide (sameStep a b)
-    (λ (s : T (sameStep a b)).
-    rw (cond-yes (sameStep a b) (suc (common r q)) 0 s)
-    (both (sameStep b a) (isPrefix (take (common r q) q) r) (rw (step-eq a b s) (step-refl b)) (shared-prefix r q)))
-    (λ (s : T (not (sameStep a b))). rw (cond-no (sameStep a b) (suc (common r q)) 0 s) tt)
-
 -- of an element: its first d + 1 steps, and then what is left of it
 first-stepwise : (d : ℕ) (e : Element) (es : List Entry) (r : List Step) → d < length (e .path) → T (isPrefix (take d (e .path)) r)
     → Stepwise (take (suc d) (e .path)) (gather (shown (e ∷ [])) (drop (suc d) (prefixes (e .path))) ++ es)
@@ -121,7 +103,7 @@ first-stepwise : (d : ℕ) (e : Element) (es : List Entry) (r : List Step) → d
 first-stepwise d e es r h t w =
     let s : length (take (suc d) (e .path)) ≡ suc d = length-take-le (suc d) (e .path) h in
     subst (λ (x : List (List Step)). Stepwise r (gather (shown (e ∷ [])) x ++ es)) (sym (prefix-at d (e .path) h))
-    (rw (parent-take d (e .path) h) t, omega (arith, s), w)
+    (rw (take-parent d (e .path) h) t, omega (arith, s), w)
 
 -- from its first d + 1 steps on, k entries and one
 left-stepwise : (k d : ℕ) (e : Element) (es : List Entry) (r : List Step) → suc d + k ≡ length (e .path) → T (isPrefix (take d (e .path)) r)
@@ -140,7 +122,7 @@ walk-stepwise r (e ∷ es) f =
     let n : common r (e .path) < length (e .path) = rest-new f in
     subst (Stepwise r) (sym (walk-left r e es))
     (left-stepwise (length (e .path) - suc (common r (e .path))) (common r (e .path)) e (walkOf shown (e .path) es) r (omega arith)
-    (shared-prefix r (e .path)) (walk-stepwise (e .path) es (rest-next f)))
+    (common-take r (e .path)) (walk-stepwise (e .path) es (rest-next f)))
 
 -- ---- the whole view
 

@@ -2,8 +2,8 @@
 use borrow.Author.Needs.{needs}
 use native.Mathlib.Omega.{arith}
 use Rattle.model.specs.Path.{stepsOf}
+use Rattle.model.specs.Groups.{made}
 use Rattle.model.proofs.Dominance.{label-lt}
-use Rattle.groups.specs.Vacant.{made}
 use Rattle.store.proofs.Lending.{own-vacant, own-changed}
 use Rattle.store.proofs.writing.insert.Statement.{statement}
 use Rattle.store.proofs.writing.insert.Tie as tie
