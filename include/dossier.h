@@ -18,6 +18,11 @@
  * dominating the one before; the last label is the element's. The path of no bytes is the root: a view takes it, and XML intake
  * as the parent; a grade refuses it by 12 and every other call by 4.
  *
+ * PATH ORDER is that of slots in a partition, of lines in a listing and of elements in XML. It goes step by step: by name from
+ * low to high, then by level from high to low, then by compartments from low to high; a prefix comes before its extensions. So of
+ * versions under one name the one of the highest level is on top. Before, it went by name and then by the label's number: a store
+ * written then is migrated once, by dossier_migrate.
+ *
  * A VALUE is a kind and bytes. Kind 0, a group: no bytes. Kind 1, a measure: four bytes, a signed number of hundredths of a
  * millimetre, lowest byte first. Kind 2, a text: 1 to 16 bytes, each 32 to 126. Pass the kind as it is, too: 256 is refused by 5.
  *
@@ -28,15 +33,16 @@
  *
  *   - A pointer reaches as many bytes as its length says. It is not NULL, not even where the length is 0: lend the address of
  *     any byte then; nothing is read or written there.
- *   - A buffer that is written (the store of an insert, an update, a delete or an XML intake; the output of a view) does not
- *     overlap another buffer of the same call. Buffers that are only read may overlap: a grade may be given one path twice.
+ *   - A buffer that is written (the store of an insert, an update, a delete, an XML intake or a migration; the output of a view)
+ *     does not overlap another buffer of the same call. Buffers that are only read may overlap: a grade may be given one path
+ *     twice.
  *   - Until a call returns, no other thread, signal handler or device writes a buffer that it was lent, or reads one that it
  *     writes. So two calls on one store run at the same time only if both only read it: views and grades. The library has no
  *     lock of its own.
  *   - The functions are declared as below, with nothing narrower.
  *
- * A view and an XML intake take less than 6 KB of stack on x86-64, a view as XML less than 8 KB and the other calls, a grade
- * too, less than 1 KB, as measured on a full store. No call blocks.
+ * An XML intake takes less than 6 KB of stack on x86-64, a view less than 7 KB, a view as XML less than 8 KB and the other calls,
+ * a grade and the migration too, less than 1 KB, as measured on a full store. No call blocks.
  */
 #ifndef DOSSIER_H
 #define DOSSIER_H
@@ -101,7 +107,8 @@ enum {
     DOSSIER_REFUSED_STORE_LENGTH = 1,
     /* The subject is no label: over 31. */
     DOSSIER_REFUSED_SUBJECT = 2,
-    /* A partition that the subject dominates is not well formed. Others are not read. */
+    /* A partition that the subject dominates is not well formed. Others are not read. One that was written before the path order
+     * changed and holds versions of one name at two levels is not well formed until it is migrated. */
     DOSSIER_REFUSED_NOT_WELL_FORMED = 3,
     /* The path's length is no multiple of 3, it has over six steps, or none in a call that is no view, no grade and no XML
      * intake; or a name is 0, a label over 31, or a label does not dominate the one before. Grade: either path is so. XML intake:
@@ -132,7 +139,8 @@ enum {
     DOSSIER_REFUSED_NOT_OWN = 14
 };
 
-/* What every call but a grade answers, returned by value: its number, and its count (what it counts stands at each call). */
+/* What every call but a grade and the migration answers, returned by value: its number, and its count (what it counts stands at
+ * each call). */
 struct dossier_answer {
     uint32_t number;
     uint64_t count;
@@ -144,6 +152,13 @@ struct dossier_grade {
     uint32_t number;
     int64_t step;
     uint32_t remainder;
+};
+
+/* What the migration answers, returned by value: its number, and the mask of the partitions that it left as they were since they
+ * were not well formed in the order of before: bit n for the partition of label n. */
+struct dossier_migration {
+    uint32_t number;
+    uint32_t mask;
 };
 
 /* Lists the path, unless it is empty, and everything in the subject's view below it, in path order, into the output.
@@ -217,6 +232,21 @@ struct dossier_grade dossier_grade(const uint8_t *store, size_t store_length, ui
  * less than two seconds. */
 struct dossier_answer dossier_insert_xml(uint8_t *store, size_t store_length, uint32_t subject, const uint8_t *parent,
                                          size_t parent_length, const uint8_t *text, size_t text_length);
+
+/* The migration: brings a store that was written before into the path order of now. It is the owner's, not a subject's, and is run
+ * once, before calls resume: until then a call of a subject that dominates a partition with versions in the order of before is
+ * refused by 3. The order of before: step by step, by name and then by the label's number, both from low to high.
+ *
+ * Each partition is done by itself. One that is well formed in the order of before gets the same elements, with their values, in
+ * the order of now. Each other keeps its bytes, and its bit in the mask is set. The number is 0; a store of another length is
+ * refused by 1, with mask 0, and keeps its bytes.
+ *
+ * The mask is no list of broken partitions. A partition that stands in the order of now already, and holds versions of one name at
+ * two levels, is not well formed in the order of before: it keeps its bytes, its bit is set, and it serves all calls. So a second
+ * migration changes no byte; its mask has the bits of the first and those of the partitions that the first changed. A partition
+ * without such versions has the same bytes in both orders. Only where nothing was written in the order of now does the mask name
+ * just the broken partitions; a subject that dominates one of them is refused by 3 as before. */
+struct dossier_migration dossier_migrate(uint8_t *store, size_t store_length);
 
 #ifdef __cplusplus
 }

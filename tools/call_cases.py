@@ -9,21 +9,22 @@ The files are calls-*.jsonl, sequences of document 01's calls, and stage-NN.json
 request NN of document 02.
 
 What the calls must give comes from tools/reference.py, documents 01 and 02 as a Python program. Each case also states the
-number, the count and the listing or the XML that the documents fix, or the number, the step and the remainder, by hand, and the
-reference is held to them. The sequences of a file bring their own answers, and the reference is held to these too; the SHA-256
+number, the count and the listing or the XML that the documents fix, the number, the step and the remainder, or the number and the
+mask, by hand, and the reference is held to them. The sequences of a file bring their own answers, and the reference is held to these too; the SHA-256
 of the store at the end of each stands below.
 
 A record of stdin is a head of four bytes, three words and two texts. The head: a letter, the length of the first text, and in two
 bytes that of the second. The words: the store's length; a subject or a place; a kind, the output's length or a number of sizes.
 Numbers have their lowest byte first. The letters: V, M (the view as XML), I, U and D, calls (texts: path and value); G (the even
 grade), a call too (texts: the base's path and the top's); T (the XML intake), a call too (texts: the parent's path and the XML);
-N, a name for what follows (text: a line); Z, every byte of the store becomes 0; X, bytes come onto the store from a place on
-(text: the bytes); S, the store is shown.
+O, the migration to the path order of request 7/14 (no texts, no subject); N, a name for what follows (text: a line); Z, every byte
+of the store becomes 0; X, bytes come onto the store from a place on (text: the bytes); S, the store is shown.
 
 stdout has for each call a line of its letter, number and count, and behind V and M what was written, up to the last byte of the
 output that is not as it was, XML with an end of line behind it; for G a line of its letter, number, step and remainder, the
-step with a minus sign where it is negative; for each name a line; for S a line for each partition that is not empty: its number
-and its bytes, in hexadecimal digits, up to the last that is not 0.
+step with a minus sign where it is negative; for O a line of its letter, number and mask; for each
+name a line; for S a line for each partition that is not empty: its number and its bytes, in hexadecimal digits, up to the last
+that is not 0.
 """
 import base64
 import hashlib
@@ -32,7 +33,7 @@ import os
 import struct
 import sys
 
-from reference import PARTITION, STORE, Model, slot_bytes
+from reference import PARTITION, SLOT, STORE, Model, migrate, read_slot, slot_bytes
 
 # ---------------------------------------------------------------------------------------------------------------------
 # Records, carried out as the program does.
@@ -41,7 +42,7 @@ BUFFER = 33 * PARTITION  # what the program keeps: a store, and some bytes behin
 
 records = []
 output = []
-answered = {letter: set() for letter in "VMIUDGT"}
+answered = {letter: set() for letter in "VMIUDGTO"}
 buffer = bytearray(BUFFER)
 
 
@@ -61,6 +62,8 @@ def record(letter, first=b"", second=b"", subject=0, third=0, size=BUFFER):
         return graded(first, second, subject, third, size)
     elif letter == "T":
         return taken_in(first, second, subject, size)
+    elif letter == "O":
+        return migrated(size)
     else:
         return call(letter, first, second, subject, third, size)
 
@@ -93,6 +96,15 @@ def taken_in(parent, text, subject, size):
     output.append(b"T %d %d\n" % (number, count))
     answered["T"].add(number)
     return number, count
+
+
+def migrated(size):
+    """Carries out O on the first bytes of the buffer."""
+    number, mask, store = migrate(buffer[:size])
+    buffer[:size] = store
+    output.append(b"O %d %d\n" % (number, mask))
+    answered["O"].add(number)
+    return number, mask
 
 
 def show_store():
@@ -236,6 +248,25 @@ def read_back(subject, where, top, text, count):
     markup_of(subject, top, text)
 
 
+def migration(number, mask=0, size=STORE):
+    """A migration."""
+    hold(record("O", size=size), (number, mask))
+
+
+def migration_keeps(number, mask=0, size=STORE):
+    """A migration after which every byte is as it was."""
+    before = bytes(buffer)
+    migration(number, mask, size)
+    hold(bytes(buffer), before)
+
+
+def in_order(label, *paths):
+    """The paths of a partition's slots are these, in this order."""
+    at = PARTITION * label
+    slots = [bytes(buffer[at + 4 + SLOT * i : at + 4 + SLOT * (i + 1)]) for i in range(buffer[at])]
+    hold([list(read_slot(slot)[0]) for slot in slots], [steps(where) for where in paths])
+
+
 def groups(label, names):
     """Groups of one label, as XML."""
     return [e(name, label, "G") for name in names]
@@ -346,17 +377,18 @@ def names_in_order():
     show()
 
 
-@case("versions of one name, by label number")
+@case("versions of one name, the highest level first")
 def versions():
     insert(0, "10:0", T("a"), 0)
     insert(16, "10:16", T("b"), 0)
     insert(9, "10:9", T("c"), 0)
     insert(16, "10:0/10:16", T("d"), 0)
     insert(9, "10:9/10:9", T("e"), 0)
-    lines = ["VIEW→25→5", "1→10→0→P→T→a", "2→10→16→P→T→d", "1→10→9→P→T→c", "2→10→9→P→T→e", "1→10→16→P→T→b"]
+    lines = ["VIEW→25→5", "1→10→16→P→T→b", "1→10→9→P→T→c", "2→10→9→P→T→e", "1→10→0→P→T→a", "2→10→16→P→T→d"]
     view(25, "/", 100, 0, 77, lines)
-    view(16, "/", 100, 0, 51, ["VIEW→16→3", "1→10→0→P→T→a", "2→10→16→P→T→d", "1→10→16→P→T→b"])
-    view(9, "/", 100, 0, 48, ["VIEW→9→3", "1→10→0→P→T→a", "1→10→9→P→T→c", "2→10→9→P→T→e"])
+    view(16, "/", 100, 0, 51, ["VIEW→16→3", "1→10→16→P→T→b", "1→10→0→P→T→a", "2→10→16→P→T→d"])
+    view(9, "/", 100, 0, 48, ["VIEW→9→3", "1→10→9→P→T→c", "2→10→9→P→T→e", "1→10→0→P→T→a"])
+    show()
 
 
 @case("an element of each label, seen by each subject")
@@ -516,7 +548,7 @@ def full():
     update(0, "17:0", M(17), 0, 1)
     update(0, "17:0/5:0", G, 0, 1)
     insert(0, "34:0", G, 9)
-    lines = ["VIEW→16→4", "1→17→0→P→M→17", "2→5→0→P→G→-", "3→6→0→P→T→six", "3→6→16→P→G→-"]
+    lines = ["VIEW→16→4", "1→17→0→P→M→17", "2→5→0→P→G→-", "3→6→16→P→G→-", "3→6→0→P→T→six"]
     view(16, "17:0", 100, 0, 63, lines)
     show()
     delete(0, "17:0", 0, 3)
@@ -555,7 +587,7 @@ def higher_version():
     insert(0, "10:0/20:0", G, 0)
     insert(16, "10:0/20:16", G, 0)
     view(0, "/", 100, 0, 37, ["VIEW→0→2", "1→10→0→P→T→low", "2→20→0→P→G→-"])
-    lines = ["VIEW→24→5", "1→10→0→P→T→low", "2→20→0→P→G→-", "2→20→16→P→G→-", "2→20→24→P→G→-", "1→10→16→P→T→high"]
+    lines = ["VIEW→24→5", "1→10→16→P→T→high", "1→10→0→P→T→low", "2→20→24→P→G→-", "2→20→16→P→G→-", "2→20→0→P→G→-"]
     view(24, "/", 100, 0, 83, lines)
     insert(16, "10:16/20:16", G, 0)
     insert(24, "10:24/20:24", G, 0, 1)
@@ -595,11 +627,11 @@ def below_of_one_label():
     insert(16, "10:0/20:0/30:16", G, 0)
     insert(16, "10:16", G, 0)
     delete(0, "10:0/20:0", 0, 2)
-    lines = ["VIEW→16→6", "1→10→0→P→G→-", "2→20→0→R→-→-", "3→30→16→P→G→-", "2→21→0→P→G→-", "1→10→16→P→G→-", "1→11→0→P→G→-"]
+    lines = ["VIEW→16→6", "1→10→16→P→G→-", "1→10→0→P→G→-", "2→20→0→R→-→-", "3→30→16→P→G→-", "2→21→0→P→G→-", "1→11→0→P→G→-"]
     view(16, "/", 100, 0, 90, lines)
     insert(0, "10:0/20:0", M(5), 0)
     delete(0, "10:0", 0, 3)
-    lines = ["VIEW→16→5", "1→10→0→R→-→-", "2→20→0→R→-→-", "3→30→16→P→G→-", "1→10→16→P→G→-", "1→11→0→P→G→-"]
+    lines = ["VIEW→16→5", "1→10→16→P→G→-", "1→10→0→R→-→-", "2→20→0→R→-→-", "3→30→16→P→G→-", "1→11→0→P→G→-"]
     view(16, "/", 100, 0, 77, lines)
     view(16, "10:0/20:0", 100, 0, 37, ["VIEW→16→2", "2→20→0→R→-→-", "3→30→16→P→G→-"])
     view(0, "/", 100, 0, 22, ["VIEW→0→1", "1→11→0→P→G→-"])
@@ -636,10 +668,9 @@ def update_keeps():
     insert(16, "10:0/20:16/40:16", M(3), 0)
     update(0, "10:0", T("CUFF"), 0, 1)
     update(16, "10:0/20:16", G, 0, 1)
-    low = ["1→10→0→P→T→CUFF", "2→20→0→P→M→1"]
-    view(0, "/", 100, 0, 38, ["VIEW→0→2"] + low)
-    high = ["3→30→9→P→M→2", "2→20→16→P→G→-", "3→40→16→P→M→3"]
-    view(25, "/", 100, 0, 80, ["VIEW→25→5"] + low + high)
+    view(0, "/", 100, 0, 38, ["VIEW→0→2", "1→10→0→P→T→CUFF", "2→20→0→P→M→1"])
+    high, low = ["2→20→16→P→G→-", "3→40→16→P→M→3"], ["2→20→0→P→M→1", "3→30→9→P→M→2"]
+    view(25, "/", 100, 0, 80, ["VIEW→25→5", "1→10→0→P→T→CUFF"] + high + low)
     update(0, "10:0/20:0", M(-1), 0, 1)
     view(25, "10:0/20:0", 100, 0, 37, ["VIEW→25→2", "2→20→0→P→M→-1", "3→30→9→P→M→2"])
     show()
@@ -806,9 +837,9 @@ def xml_order():
         insert(0, where, G, 0)
     names = [e(255, 0, "G"), e(256, 0, "G", e(1, 0, "G")), e(257, 0, "G"), e(65535, 0, "G")]
     low, nine, high = e(10, 0, "T", "a", e(10, 16, "T", "d")), e(10, 9, "T", "c", e(10, 9, "T", "e")), e(10, 16, "T", "b")
-    markup(25, "/", 1000, 0, 586, dossier(25, e(1, 0, "G"), low, nine, high, *names))
-    markup(16, "/", 1000, 0, 486, dossier(16, e(1, 0, "G"), low, high, *names))
-    markup(9, "/", 1000, 0, 483, dossier(9, e(1, 0, "G"), e(10, 0, "T", "a"), nine, *names))
+    markup(25, "/", 1000, 0, 586, dossier(25, e(1, 0, "G"), high, nine, low, *names))
+    markup(16, "/", 1000, 0, 486, dossier(16, e(1, 0, "G"), high, low, *names))
+    markup(9, "/", 1000, 0, 483, dossier(9, e(1, 0, "G"), nine, e(10, 0, "T", "a"), *names))
     markup(25, "10:9", 1000, 0, 132, dossier(25, nine))
     markup(25, "256:0", 1000, 0, 130, dossier(25, names[1]))
 
@@ -1636,8 +1667,8 @@ def intake_among():
     intake(0, "/", e(1, 0, "G", e(1, 0, "G")), 0, 2)
     intake(0, "/", e(20, 0, "G"), 0, 1)
     show()
-    lines = ["VIEW→16→9", "1→10→0→P→G→-", "2→10→0→P→G→-", "2→20→0→P→M→100", "3→1→0→P→G→-", "3→2→0→P→M→149", "4→3→0→P→T→in"]
-    view(16, "10:0", 200, 0, 129, lines + ["2→20→16→P→G→-", "2→30→0→P→G→-", "3→1→0→P→G→-"])
+    lines = ["VIEW→16→9", "1→10→0→P→G→-", "2→10→0→P→G→-", "2→20→16→P→G→-", "2→20→0→P→M→100", "3→1→0→P→G→-", "3→2→0→P→M→149"]
+    view(16, "10:0", 200, 0, 129, lines + ["4→3→0→P→T→in", "2→30→0→P→G→-", "3→1→0→P→G→-"])
     grade(16, "10:0/20:0", "10:0/20:0/2:0", 10, 0, 4, 9)
     insert(0, "10:0/20:0/2:0", G, 8)
     insert(0, "10:0/20:0/2:0/4:0", G, 0)
@@ -2109,6 +2140,221 @@ def made_by_each():
 
 
 # ---------------------------------------------------------------------------------------------------------------------
+# The path order and the migration: document 02's request 7/14. Partitions are put in the order of before.
+
+# the labels in path order under one name
+BY_LEVEL = [8 * level + n for level in (3, 2, 1, 0) for n in range(8)]
+
+
+@case("versions of one name at seven labels, seen by 31")
+def seven_versions():
+    for where in ("10:0", "10:8", "10:9", "10:16", "10:24", "10:1", "9:31"):
+        insert(int(where.split(":")[1]), where, G, 0)
+    lines = ["1→9→31→P→G→-", "1→10→24→P→G→-", "1→10→16→P→G→-", "1→10→8→P→G→-", "1→10→9→P→G→-", "1→10→0→P→G→-", "1→10→1→P→G→-"]
+    view(31, "/", 103, 0, 103, ["VIEW→31→7"] + lines)
+    tens = [e(10, label, "G") for label in (24, 16, 8, 9, 0, 1)]
+    markup_of(31, "/", e(9, 31, "G"), *tens)
+
+
+@case("a partition with a version of each label, put in one by one")
+def each_version():
+    for label in range(32):
+        insert(label, "10:%d" % label, G, 0)
+    # from label 0 up, from 30 down: each finds its place among the others
+    for label in list(range(0, 31, 2)) + list(range(29, 0, -2)):
+        insert(31, "10:%d/1:31" % label, M(label), 0)
+    in_order(31, *("10:31" if label == 31 else "10:%d/1:31" % label for label in BY_LEVEL))
+    lines = ["VIEW→31→63"]
+    for label in BY_LEVEL:
+        lines += ["1→10→%d→P→G→-" % label] + ["2→1→31→P→M→%d" % label] * (label != 31)
+    view(31, "/", 1000, 0, 873, lines)
+    insert(31, "10:31/1:31", G, 9)
+    delete(31, "10:8/1:31", 0, 1)
+    insert(31, "10:31/1:31", M(31), 0)
+    insert(31, "10:8/1:31", G, 9)
+    update(31, "10:0/1:31", M(-1), 0, 1)
+    delete(31, "10:31", 0, 2)
+    show()
+
+
+@case("the migration of a store made before")
+def migrated_example():
+    ab = T("ab")
+    put(0, ("10:0", ab), ("11:0", ab))
+    put(8, ("10:8", ab))
+    put(9, ("10:0/1:9", ab), ("10:8/1:9", ab), ("10:9", ab), ("10:9/1:9", ab))
+    corrupt(PARTITION * 5 + 2, b"\1")
+    show()
+    then("before it: 9 is refused, 8 is served")
+    every_call(3, 9, "10:9")
+    view(8, "/", 100, 0, 51, ["VIEW→8→3", "1→10→8→P→T→ab", "1→10→0→P→T→ab", "1→11→0→P→T→ab"])
+    then("the migration: partition 5 is not well formed in the order of before")
+    migration(0, 1 << 5)
+    in_order(9, "10:8/1:9", "10:9", "10:9/1:9", "10:0/1:9")
+    lines = ["VIEW→9→7", "1→10→8→P→T→ab", "2→1→9→P→T→ab", "1→10→9→P→T→ab", "2→1→9→P→T→ab", "1→10→0→P→T→ab", "2→1→9→P→T→ab"]
+    view(9, "/", 200, 0, 104, lines + ["1→11→0→P→T→ab"])
+    view(5, "/", 100, 3)
+    show()
+    then("the same again: no byte changes, and the bit of the partition that changed is set too")
+    migration_keeps(0, 1 << 5 | 1 << 9)
+    migration_keeps(0, 1 << 5 | 1 << 9)
+    view(9, "11:0", 100, 0, 23, ["VIEW→9→1", "1→11→0→P→T→ab"])
+    show()
+
+
+@case("the migration of an empty store and of stores of other lengths")
+def migrated_lengths():
+    migration_keeps(0)
+    for size in (0, 1, PARTITION, 41087, 41089, BUFFER):
+        migration_keeps(1, 0, size)
+    put(9, ("10:0/1:9", G), ("10:8/1:9", G))
+    corrupt(PARTITION * 5 + 2, b"\1")
+    for size in (0, 1, PARTITION * 10, 41087, 41089, BUFFER):
+        migration_keeps(1, 0, size)
+    migration(0, 1 << 5)
+    in_order(9, "10:8/1:9", "10:0/1:9")
+    show()
+
+
+@case("the migration of a full partition: the versions of all levels")
+def migrated_full():
+    paths = ["10:%d/1:31" % label for label in range(31)] + ["10:31"]
+    put(31, *((where, M(n)) for n, where in enumerate(paths)))
+    view(31, "/", 1000, 3)
+    migration(0)
+    in_order(31, *(paths[label] for label in BY_LEVEL))
+    view_lines(31, "/", 63)
+    show()
+    migration_keeps(0, 1 << 31)
+    then("one element of each level, five steps in front")
+    one = "1:0/1:0/1:0/1:0/1:%d/1:24"
+    put(24, *((one % label, T("level %d" % (label // 8))) for label in (0, 8, 16)), ("1:0/1:0/1:0/1:0/1:24", T("level 3")))
+    put(31)
+    migration(0)
+    in_order(24, "1:0/1:0/1:0/1:0/1:24", *(one % label for label in (16, 8, 0)))
+    show()
+    then("two versions far apart, and one element behind 31")
+    first = [("10:0/%d:8" % n, G) for n in range(1, 32)]
+    put(24)
+    put(8, *first, ("10:8", T("last")))
+    migration(0)
+    in_order(8, "10:8", *(where for where, value in first))
+    show()
+    migration_keeps(0, 1 << 8)
+
+
+@case("the migration of versions inside versions")
+def migrated_nested():
+    put(25, ("10:0/5:0/1:25", M(1)), ("10:0/5:1/1:25", M(2)), ("10:0/5:8/1:25", M(3)), ("10:0/5:9/1:25", M(4)))
+    put(24, ("9:0/5:24", G), ("10:0/5:0/1:24", M(1)), ("10:0/5:8/1:24", M(2)), ("10:0/5:16/1:24", M(3)), ("10:0/5:24", M(4)),
+        ("10:0/6:24", M(5)), ("10:8/5:8/1:24", M(6)), ("10:8/5:16/1:24", M(7)), ("10:24", M(8)), ("10:24/5:24", M(9)),
+        ("10:24/5:24/1:24", M(10)), ("11:24", T("after")))
+    migration(0)
+    in_order(25, "10:0/5:8/1:25", "10:0/5:9/1:25", "10:0/5:0/1:25", "10:0/5:1/1:25")
+    in_order(24, "9:0/5:24", "10:24", "10:24/5:24", "10:24/5:24/1:24", "10:8/5:16/1:24", "10:8/5:8/1:24", "10:0/5:24", "10:0/5:16/1:24",
+             "10:0/5:8/1:24", "10:0/5:0/1:24", "10:0/6:24", "11:24")
+    view_lines(25, "/", 26)
+    show()
+    then("calls on what was moved")
+    update(24, "10:8/5:16/1:24", T("seven"), 0, 1)
+    insert(24, "10:16/5:24", G, 7)
+    insert(16, "10:16", G, 0)
+    insert(24, "10:16/5:24", G, 0)
+    intake(24, "10:16", e(4, 24, "G", e(1, 24, "M", "1")), 0, 2)
+    in_order(24, "9:0/5:24", "10:24", "10:24/5:24", "10:24/5:24/1:24", "10:16/4:24", "10:16/4:24/1:24", "10:16/5:24", "10:8/5:16/1:24",
+             "10:8/5:8/1:24", "10:0/5:24", "10:0/5:16/1:24", "10:0/5:8/1:24", "10:0/5:0/1:24", "10:0/6:24", "11:24")
+    grade(24, "10:0/5:0/1:24", "10:8/5:8/1:24", 2, 0, 2, 1)
+    delete(24, "10:24", 0, 3)
+    delete(24, "10:0/5:24", 0, 1)
+    show()
+    migration_keeps(0, 1 << 24 | 1 << 25)
+
+
+@case("partitions that the migration leaves as they are")
+def migration_left():
+    then("versions of one level, and names: well formed in both orders")
+    put(3, ("9:3", G), ("10:0/1:3", G), ("10:1/1:3", G), ("10:2/1:3", G), ("10:3", G))
+    put(27, ("9:3/1:27", G), ("10:26/1:27", G), ("10:27", G), ("255:0/1:27", G), ("256:24/1:27", G), ("257:8/1:27", G))
+    put(16, ("10:8/1:16", G), ("11:0/1:16", G), ("11:0/2:8/1:16", G))
+    migration_keeps(0)
+    migration_keeps(0)
+    then("well formed in the new order alone: it keeps its bytes, and its bit is set")
+    put(16, ("10:8/1:16", G), ("10:0/1:16", G))
+    migration_keeps(0, 1 << 16)
+    view_lines(16, "/", 4)
+    then("well formed in neither")
+    put(16, ("10:8/1:16", G), ("10:16", G), ("10:0/1:16", G))
+    migration_keeps(0, 1 << 16)
+    put(16, ("10:0/1:16", G), ("10:8/1:16", G), ("10:8/1:16", G))
+    migration_keeps(0, 1 << 16)
+    put(16, ("10:0/1:16", G), ("10:8/1:16", G), ("10:16/1:16", G))
+    migration_keeps(0, 1 << 16)
+    put(16, ("10:0/1:16", G), ("10:8/1:17", G))
+    migration_keeps(0, 1 << 16)
+    put(16, ("10:0/1:16", T("")), ("10:8/1:16", G))
+    migration_keeps(0, 1 << 16)
+    put(16, ("10:0/1:16", G), ("10:9/1:16", G))
+    migration_keeps(0, 1 << 16)
+    show()
+
+
+@case("the migration of partitions with versions and one byte changed")
+def migration_corrupted():
+    base = PARTITION * 16
+    put(16, ("10:0/1:16", T("ab")), ("10:8/1:16", M(1)), ("10:16", G))
+    changes = [(0, 2), (0, 4), (0, 33), (0, 255), (1, 1), (3, 128), (4, 0), (4, 3), (4, 7), (9, 1), (17, 32), (19, 1), (23, 0), (24, 3)]
+    changes += [(25, 31), (40, 1), (43, 1), (44, 1), (57, 24), (84, 2), (85, 9), (97, 17), (103, 1), (104, 1), (124, 1), (1283, 1)]
+    for at, b in changes:
+        was = bytes(buffer[base + at : base + at + 1])
+        corrupt(base + at, bytes([b]))
+        migration_keeps(0, 1 << 16)
+        corrupt(base + at, was)
+    then("mended")
+    migration(0)
+    in_order(16, "10:16", "10:8/1:16", "10:0/1:16")
+    show()
+
+
+@case("the mask of each partition, and of all")
+def masks():
+    for label in range(32):
+        corrupt(PARTITION * label + 1, b"\1")
+        migration_keeps(0, 1 << label)
+        corrupt(PARTITION * label + 1, b"\0")
+    for label in range(32):
+        corrupt(PARTITION * label + 1283, b"\1")
+        migration_keeps(0, (1 << label + 1) - 1)
+    migration_keeps(0, 4294967295)
+    migration_keeps(1, 0, 41087)
+    show()
+
+
+@case("each partition is migrated by itself")
+def migrated_apart():
+    def versions(label):
+        """Two versions below 10, in the order of before."""
+        put(label, ("10:0/1:%d" % label, M(label)), ("10:8/1:%d" % label, M(label)))
+
+    for label in (9, 16, 17, 24, 31):
+        versions(label)
+    corrupt(PARTITION * 16 + 4 + 39, b"\1")
+    migration(0, 1 << 16)
+    for label in (9, 17, 24, 31):
+        in_order(label, "10:8/1:%d" % label, "10:0/1:%d" % label)
+    show()
+    view_lines(9, "/", 4)
+    every_call(3, 24, "10:8")
+    then("mended, and migrated once more")
+    corrupt(PARTITION * 16 + 4 + 39, b"\0")
+    every_call(3, 16, "10:8")
+    migration(0, 1 << 9 | 1 << 17 | 1 << 24 | 1 << 31)
+    in_order(16, "10:8/1:16", "10:0/1:16")
+    view_lines(31, "/", 12)
+    migration_keeps(0, 1 << 9 | 1 << 16 | 1 << 17 | 1 << 24 | 1 << 31)
+    show()
+
+
+# ---------------------------------------------------------------------------------------------------------------------
 # The table: each number on each call that can give it, and which comes first.
 
 
@@ -2151,12 +2397,12 @@ def refusal_3():
     markup(0, "/", 100, 0, 80, '<dossier subject="0"><e10 label="0" preserve="PRESENT" kind="G"></e10></dossier>')
     insert(9, "10:9/11:9", G, 0)
     update(9, "10:9", M(1), 0, 1)
-    view(9, "/", 100, 0, 48, ["VIEW→9→3", "1→10→0→P→G→-", "1→10→9→P→M→1", "2→11→9→P→G→-"])
+    view(9, "/", 100, 0, 48, ["VIEW→9→3", "1→10→9→P→M→1", "2→11→9→P→G→-", "1→10→0→P→G→-"])
     delete(9, "10:9", 0, 2)
     show()
     then("mended; then the partition below both")
     corrupt(PARTITION * 16 + 2, b"\0")
-    view(16, "/", 100, 0, 37, ["VIEW→16→2", "1→10→0→P→G→-", "1→10→16→P→G→-"])
+    view(16, "/", 100, 0, 37, ["VIEW→16→2", "1→10→16→P→G→-", "1→10→0→P→G→-"])
     corrupt(1283, b"\1")
     every_call(3, 16, "10:16")
     every_call(3, 9, "10:9")
@@ -2257,7 +2503,7 @@ def one_byte_changed():
     changes += [(one + 19, 1), (one + 19, 3), (one + 20, 1), (one + 21, 65)]
     changes += [(one + 36, 1), (one + 37, 1), (one + 38, 1), (one + 39, 1)]
     changes += [(two, 1), (two, 3), (two + 1, 9), (two + 1, 12), (two + 3, 0)]
-    changes += [(two + 13, 17), (two + 13, 0), (two + 14, 0), (two + 15, 16)]
+    changes += [(two + 13, 17), (two + 13, 24), (two + 14, 0), (two + 15, 16)]
     changes += [(two + 19, 0), (two + 19, 1), (two + 20, 1), (two + 20, 3), (two + 20, 17)]
     changes += [(two + 21, 31), (two + 22, 127), (two + 23, 1)]
     changes += [(84, 1), (1244, 1), (1283, 255)]
@@ -2274,8 +2520,10 @@ def one_byte_changed():
     view(16, "/", 100, 0, 39, ["VIEW→16→2", "1→10→16→P→G→-", "2→21→16→P→T→Ab"])
     corrupt(base + one + 19, b"\1\4\0\0\0\200")
     view(16, "10:16", 100, 0, 49, ["VIEW→16→2", "1→10→16→P→M→-2147483648", "2→21→16→P→T→Ab"])
+    then("one label changed, and in path order: 10:16 before 10:0/21:16")
     corrupt(base + two + 13, b"\0")
-    view(16, "/", 100, 3)
+    lines = ["VIEW→16→3", "1→10→16→P→M→-2147483648", "1→10→0→R→-→-", "2→21→16→P→T→Ab"]
+    view(16, "/", 100, 0, 62, lines)
     show()
 
 
@@ -2385,29 +2633,22 @@ def counts():
 
 # ---------------------------------------------------------------------------------------------------------------------
 # Sequences of files, chosen by their names: between them they give every number but 1. With each, the SHA-256 of its last store.
-# Of those made before request 2/14 only such are chosen in which no update finds an element of its own label below its path, and of
-# those made before request 6/14 only such in which no insert misses groups of its own label.
+# Of those made before request 2/14 only such are chosen in which no update finds an element of its own label below its path, of
+# those made before request 6/14 only such in which no insert misses groups of its own label, and of those made before request 7/14
+# only such in which no partition and no view has versions of one name at two levels.
 
 CHOSEN = {
-    "sequence 4": "2302a893e21f076f50abd462a770ff26bddd0c64c2682551e8781022b7cdf349",
     "sequence 5": "624d36a7d93222074f067382194e0bd739128e891a4feba713d50d17093d623a",
-    "sequence 17": "27dc56f1b389e30f99ce94b90395593614b3cb582472c7249e99cfce09f9c1eb",
     "sequence 1141 after request 1": "3aab6b71645abcbf62a3dab9a97494bcbbce8c7904c8956485224476a12ae349",
-    "sequence 2122 after request 2": "0e94562524633c412211e0be427bb704c0616f306746ada7861b3f4b4e811597",
-    "sequence 2140 after request 2": "f433a957ac4ea9606133aa7a0e282504f5e2e1d5c99e062c7d3a946b3e89af4d",
     "sequence 3082 after request 3": "eaa828cce3d140c06fe962740492a65b605ab3264b9a55f97da8d2f5c2164ff7",
-    "sequence 3169 after request 3": "b0f4d08734f16eef5585286fd84fe023de125d33b32a84afc74f39579a9514a9",
     "sequence 3174 after request 3": "70eb0019a40b8fbe28da941efb5d97d1fcd2db1854dfda04dafa2f35de4b5149",
-    "sequence 5084 after request 5": "001053794b7bd89a737ea2b06cfcd2d05c5ad6c3e22f90232583d8ffb6d28262",
-    "sequence 5123 after request 5": "b0083b28a94750b34e37df0fdc82d892b7d3ba562208adda50e79caa58f53105",
-    "sequence 5214 after request 5": "ceac5da63c990b357165b314cd74105a51176ae19c17e341993115b86be48284",
-    "sequence 5216 after request 5": "a692fc623e4281d3a5aabe38ef2976147c6dfb745a03ff1c08c07d0fa9a5e387",
-    "sequence 5218 after request 5": "dd335b238ed78935b1f6df16aa0ea29b454c7353eeed83bb9bcb701a5daf80fb",
-    "sequence 6053 after request 6": "fe6dfbf3d4c41a06015b898db5e7f06995cfb8311736637cef496d91ccde6739",
-    "sequence 6188 after request 6": "ec104fbaef728093976f6d02874ee9c83666613f396361c436f7c16480698793",
     "sequence 6191 after request 6": "fc2dd6bc53525ececc15ef51b94d4fabcc80a8483fe8948e991651019d61bf57",
-    "sequence 6213 after request 6": "b2daa4a828a229c4c4f2a47fa212ebe24edc29880c5608765b13ebcdac87eebe",
-    "sequence 6232 after request 6": "e4ffc8d59baffb1c3416ab78e44b658b8e27c1646214c8fafe98f5b9e4d9fbfa",
+    "sequence 7207 after request 7": "3213a0f929a8bce652142ffa4e44827f6c632290f05a60f4b8bd7bc43be1d02f",
+    "sequence 7096 after request 7": "b6b769f63c2d731d4631ce5fac8842156fb3fccae17badff8058bda53dd33681",
+    "sequence 7177 after request 7": "4168180e21b94c1522719524c3de1a26b5e2ee0ed4cdaec7ec50242c4cdcf049",
+    "sequence 7220 after request 7": "729cd822e20fa710660859a817a1399f297df102ffd7f693ad6775acc6235256",
+    "sequence 7109 after request 7": "11879bb631e9c9150c58fefdeb6bae014c7b69ab9232928ad860d77b292d65ab",
+    "sequence 7078 after request 7": "6b61d1a05884a508641bbd1f5c797ab5c257df3dda4d2e0c461903165cf7dfeb",
 }
 
 
@@ -2453,6 +2694,10 @@ def event(line):
     """One event of a sequence: bytes that come onto the store, or a call and what it must give."""
     if "damage" in line:
         corrupt(line["damage"], bytes.fromhex(line["bytes"]))
+        return
+    if line["call"] == "carry":
+        hold(line["written"], "")
+        migration(line["number"], line["count"])
         return
     if line["call"] == "grade":
         base, top = bytes.fromhex(line["path"]), bytes.fromhex(line["top"])
@@ -2513,6 +2758,7 @@ VIEWS = {0, 1, 2, 3, 4, 7, 10}
 NUMBERS = {"V": VIEWS, "M": VIEWS, "I": set(range(10)), "U": set(range(8)), "D": {0, 1, 2, 3, 4, 6, 7}}
 NUMBERS["G"] = {0, 1, 2, 3, 4, 7, 11, 12}
 NUMBERS["T"] = {0, 1, 2, 3, 4, 7, 8, 9, 13, 14}
+NUMBERS["O"] = {0, 1}
 
 
 def main(words):

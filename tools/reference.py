@@ -1,9 +1,10 @@
 """Documents 01 and 02 as a Python program, written from the documents alone: the reference that expected output comes from.
 
-It holds labels, paths, values, the bytes of slots, partitions and stores, what is in view, how it is listed, how it is written as
-XML and how such XML is read, and the seven calls on a model of the store: the four of document 01, Update and Insert as document
-02's requests 2/14 and 6/14 amend them, the view as XML of request 1/14, the even grade of request 3/14 and the XML intake of
-request 5/14. It shares no code with the crates, and runs by no part of them.
+It holds labels, paths and their order, values, the bytes of slots, partitions and stores, what is in view, how it is listed, how
+it is written as XML and how such XML is read, and the seven calls on a model of the store: the four of document 01, Update and
+Insert as document 02's requests 2/14 and 6/14 amend them, the view as XML of request 1/14, the even grade of request 3/14 and the
+XML intake of request 5/14; and, on the store's bytes, the migration of request 7/14, from the path order of before to the one that
+all else goes by. It shares no code with the crates, and runs by no part of them.
 """
 import re
 import struct
@@ -44,6 +45,17 @@ def read_path(raw):
     return steps if good_steps(steps) else None
 
 
+def path_key(path):
+    """A path's place in path order: step by step by name, then by level from high to low, then by compartments from low to high. A
+    prefix comes before its extensions."""
+    return [(name, -(label // 8), label % 8) for name, label in path]
+
+
+def old_path_key(path):
+    """A path's place in the path order of before request 7/14: step by step by name, then by the label's number."""
+    return list(path)
+
+
 def slot_bytes(steps, kind, value):
     """An element as 40 bytes."""
     b = bytearray(SLOT)
@@ -68,8 +80,8 @@ def read_slot(b):
     return (steps, kind, value) if slot_bytes(steps, kind, value) == bytes(b) else None
 
 
-def read_partition(label, b):
-    """The set of a well-formed partition, each path with its kind and value; None if it is not well formed."""
+def read_partition(label, b, key=path_key):
+    """The set of a partition that is well formed in an order, each path with its kind and value; None if it is not."""
     count = b[0]
     if count > 32 or any(b[1:4]) or any(b[4 + SLOT * count :]):
         return None
@@ -77,7 +89,7 @@ def read_partition(label, b):
     if None in elements:
         return None
     paths = [e[0] for e in elements]
-    if any(p[-1][1] != label for p in paths) or any(p >= q for p, q in zip(paths, paths[1:])):
+    if any(p[-1][1] != label for p in paths) or any(key(p) >= key(q) for p, q in zip(paths, paths[1:])):
         return None
     for p in paths:
         if any(p[n - 1][1] == label and p[:n] not in paths for n in range(1, len(p))):
@@ -87,7 +99,7 @@ def read_partition(label, b):
 
 def partition_bytes(elements):
     """A set laid out in 1,284 bytes."""
-    slots = b"".join(slot_bytes(p, *elements[p]) for p in sorted(elements))
+    slots = b"".join(slot_bytes(p, *elements[p]) for p in sorted(elements, key=path_key))
     return (bytes([len(elements), 0, 0, 0]) + slots).ljust(PARTITION, b"\0")
 
 
@@ -121,7 +133,7 @@ def element(path, contents):
     name, label = path[-1]
     preserve = b"REMOVED" if contents[path] is None else b"PRESENT"
     letter, value = printed(contents[path])
-    below = b"".join(element(p, contents) for p in sorted(contents) if p[:-1] == path)
+    below = b"".join(element(p, contents) for p in sorted(contents, key=path_key) if p[:-1] == path)
     tag = b'<e%d label="%d" preserve="%s" kind="%s">' % (name, label, preserve, letter)
     return tag + escaped(value) + below + b"</e%d>" % name
 
@@ -172,6 +184,20 @@ def read_style(text, parent):
     is not one element in form."""
     contents = {}
     return contents if read_element(text, 0, parent, contents) == len(text) else None
+
+
+def migrate(store):
+    """The migration of a store made before request 7/14: its number, its mask and the store after it. Each partition that is well
+    formed in the order of before gets its elements in the new one; each other keeps its bytes, and its bit is set."""
+    if len(store) != STORE:
+        return 1, 0, bytes(store)
+    mask, parts = 0, []
+    for n in range(32):
+        raw = bytes(store[PARTITION * n : PARTITION * (n + 1)])
+        elements = read_partition(n, raw, old_path_key)
+        mask |= 0 if elements is not None else 1 << n
+        parts.append(raw if elements is None else partition_bytes(elements))
+    return 0, mask, b"".join(parts)
 
 
 class Model:
@@ -228,12 +254,12 @@ class Model:
     def listing(self, subject, path):
         """The printed view."""
         listed = self.listed(subject, path)
-        return b"VIEW\t%d\t%d\n" % (subject, len(listed)) + b"".join(line(p, listed[p]) for p in sorted(listed))
+        return b"VIEW\t%d\t%d\n" % (subject, len(listed)) + b"".join(line(p, listed[p]) for p in sorted(listed, key=path_key))
 
     def xml(self, subject, path):
         """The view as XML: in the dossier tag the path's own element, or for the empty path the elements of one step."""
         listed = self.listed(subject, path)
-        top = sorted(p for p in listed if p == path or len(p) == 1)
+        top = sorted((p for p in listed if p == path or len(p) == 1), key=path_key)
         return b'<dossier subject="%d">%s</dossier>' % (subject, b"".join(element(p, listed) for p in top))
 
     def barred(self, subject):

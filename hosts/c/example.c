@@ -1,6 +1,7 @@
 /* A subject of label 0 inserts a style and a subject of label 16 a measure under it; 0 deletes the style, and 16 lists what he
  * sees: the style, marked as removed, above his measure. Then 16 inserts a second measure and asks for the even grade between
- * the two. */
+ * the two. At last a subject of label 24 inserts a version of the first measure under its name and lists both: the sealed one is
+ * on top. */
 #include "dossier.h"
 
 #include <inttypes.h>
@@ -12,18 +13,21 @@ static uint8_t store[DOSSIER_STORE_BYTES];
 /* Room for any listing. */
 static uint8_t output[DOSSIER_LISTING_BYTES_MAX];
 
-/* Two subjects. */
+/* Three subjects. */
 static const uint32_t open_subject = DOSSIER_LABEL(DOSSIER_LEVEL_OPEN, 0);
 static const uint32_t house_subject = DOSSIER_LABEL(DOSSIER_LEVEL_HOUSE, 0);
+static const uint32_t sealed_subject = DOSSIER_LABEL(DOSSIER_LEVEL_SEALED, 0);
 
-/* The path 10:0, and 20:16 and 21:16 below it. */
+/* The path 10:0, and 20:16, 21:16 and 20:24 below it. */
 static const uint8_t style[] = {10, 0, 0};
 static const uint8_t sleeve[] = {10, 0, 0, 20, 0, 16};
 static const uint8_t wider[] = {10, 0, 0, 21, 0, 16};
+static const uint8_t sealed_sleeve[] = {10, 0, 0, 20, 0, 24};
 
-/* -150 and 850 hundredths of a millimetre, lowest byte first. */
+/* -150, 850 and -140 hundredths of a millimetre, lowest byte first. */
 static const uint8_t measure[] = {0x6a, 0xff, 0xff, 0xff};
 static const uint8_t wider_measure[] = {0x52, 0x03, 0x00, 0x00};
+static const uint8_t sealed_measure[] = {0x74, 0xff, 0xff, 0xff};
 
 /* No bytes: the root's path and a group's value. */
 static const uint8_t none[1];
@@ -72,7 +76,16 @@ static int print_grade(void)
         && printf("step %" PRId64 ", remainder %" PRIu32 "\n", grade.step, grade.remainder) > 0;
 }
 
+/* Inserts the version of the sealed subject and prints what he sees. */
+static int print_versions(void)
+{
+    return is_done("insert", dossier_insert(store, sizeof store, sealed_subject, sealed_sleeve, sizeof sealed_sleeve,
+                                            DOSSIER_KIND_MEASURE, sealed_measure, sizeof sealed_measure))
+        && print_view(sealed_subject);
+}
+
 int main(void)
 {
-    return make() && print_view(open_subject) && print_view(house_subject) && print_grade() ? 0 : 1;
+    int is_printed = make() && print_view(open_subject) && print_view(house_subject) && print_grade() && print_versions();
+    return is_printed ? 0 : 1;
 }

@@ -1,6 +1,7 @@
 /* Measures the stack that the calls take, on the longest listing and the longest XML known: each label has 32 elements, each of
  * six steps, and those above it are removed wherever the label dominates another; each text is all & characters. XML intakes and
- * an insert that makes groups are measured with the partition of label 31 empty. The last line is 'N passed, N failed'. */
+ * an insert that makes groups are measured with the partition of label 31 empty, the migration with one there in the order of
+ * before. The last line is 'N passed, N failed'. */
 #define _XOPEN_SOURCE 700
 #include "dossier.h"
 
@@ -11,7 +12,7 @@
 
 /* The stack of a measured call, what it is filled with, and what the header says that a view, one as XML, an XML intake and
  * another call take. */
-enum { STACK = 65536, FILL = 0xa5, VIEW_MOST = 6 * 1024, XML_MOST = 8 * 1024, INTAKE_MOST = 6 * 1024, OTHER_MOST = 1024 };
+enum { STACK = 65536, FILL = 0xa5, VIEW_MOST = 7 * 1024, XML_MOST = 8 * 1024, INTAKE_MOST = 6 * 1024, OTHER_MOST = 1024 };
 
 /* The bytes of the longest listing and of the longest XML known, the elements of each label, and the first name. */
 enum { LONGEST = 114861, LONGEST_XML = 414816, EACH = 32, LABELS = 32, STEP = 3, ABOVE = 5, FIRST_NAME = 10000 };
@@ -106,8 +107,8 @@ static int fill(void)
 }
 
 /* The calls that are measured: none, for what a thread takes itself, a view of all, one as XML, an update, a delete, an insert,
- * a grade between two measures, one between two removed elements, which is refused, an insert of six steps, and an XML intake of
- * the text. */
+ * a grade between two measures, one between two removed elements, which is refused, an insert of six steps, an XML intake of the
+ * text, and the migration. */
 static void *no_call(void *unused)
 {
     return unused;
@@ -165,6 +166,39 @@ static void *call_insert_xml(void *unused)
 {
     answer = dossier_insert_xml(store, sizeof store, 31, path, 0, (const uint8_t *)sent, sent_length);
     return unused;
+}
+
+static void *call_migrate(void *unused)
+{
+    struct dossier_migration migration = dossier_migrate(store, sizeof store);
+    answer.number = migration.number;
+    answer.count = migration.mask;
+    return unused;
+}
+
+/* Fills the partition of label 31 in the order of before: a group of six steps below each label, the name and the labels the same
+ * up to the fifth. The last is the one that comes first now. */
+static void fill_before(void)
+{
+    uint8_t *partition = store + 31 * DOSSIER_PARTITION_BYTES;
+    memset(partition, 0, DOSSIER_PARTITION_BYTES);
+    partition[0] = EACH;
+    for (size_t at = 0; at < EACH; at++) {
+        uint8_t *slot = partition + 4 + 40 * at;
+        size_t steps = at + 1 < EACH ? ABOVE + 1 : ABOVE;
+        slot[0] = (uint8_t)steps;
+        for (size_t step = 0; step < steps; step++) {
+            slot[1 + 2 * step] = 1;
+        }
+        slot[13 + ABOVE - 1] = (uint8_t)at;
+        slot[13 + steps - 1] = 31;
+    }
+}
+
+/* The label of the fifth step of an element of label 31. */
+static int fifth_label(size_t at)
+{
+    return store[31 * DOSSIER_PARTITION_BYTES + 4 + 40 * at + 13 + ABOVE - 1];
 }
 
 /* Puts a tag behind the text: the start tag of a text of 16 & characters, with its value, or an end tag. */
@@ -274,6 +308,9 @@ int main(void)
     make_text(EACH / (ABOVE + 1) + 1);
     measure("XML intake", call_insert_xml, DOSSIER_DONE, base, INTAKE_MOST);
     check("most of a partition is taken in", answer.count == 31);
+    fill_before();
+    measure("migration", call_migrate, DOSSIER_DONE, base, OTHER_MOST);
+    check("the partition is migrated", answer.count == 0 && fifth_label(0) == 24 && fifth_label(7) == 31 && fifth_label(31) == 7);
     printf("%d passed, %d failed\n", passed, failed);
     return failed == 0 ? 0 : 1;
 }

@@ -1,5 +1,6 @@
 /* Tests the C declarations: answers, listings, XML, what refusals leave untouched, what an update keeps, missing groups, grades,
- * and styles taken in as XML. The last line is 'N passed, N failed'. */
+ * styles taken in as XML, the order of versions, and the migration of stores written before, a store file of tests among them.
+ * The last line is 'N passed, N failed'. */
 #include "dossier.h"
 
 #include <stdio.h>
@@ -151,6 +152,8 @@ static void test_answer(void)
     check("a grade has 24 bytes", sizeof(struct dossier_grade) == 24);
     check("the step is at byte 8", offsetof(struct dossier_grade, step) == 8);
     check("the remainder is at byte 16", offsetof(struct dossier_grade, remainder) == 16);
+    check("a migration has 8 bytes", sizeof(struct dossier_migration) == 8);
+    check("the mask is at byte 4", offsetof(struct dossier_migration, mask) == 4);
 }
 
 /* The calls of document 01's example that change the store. */
@@ -645,6 +648,117 @@ static void test_intake_text(void)
     }
 }
 
+/* Versions under one name: the highest level is on top, and of one level the lowest compartments. */
+static void test_order(void)
+{
+    static const uint8_t labels[] = {0, 8, 9, 16, 24, 1};
+    static const uint8_t p9_31[] = {9, 0, 31};
+    uint8_t path[] = {10, 0, 0};
+    start();
+    for (size_t at = 0; at < sizeof labels; at++) {
+        path[2] = labels[at];
+        done("a version", insert_group(labels[at], LENT(path)), 0);
+    }
+    done("insert 9:31", insert_group(31, LENT(p9_31)), 0);
+    sees("the highest level is on top", 31,
+         "VIEW\t31\t7\n1\t9\t31\tP\tG\t-\n1\t10\t24\tP\tG\t-\n1\t10\t16\tP\tG\t-\n1\t10\t8\tP\tG\t-\n"
+         "1\t10\t9\tP\tG\t-\n1\t10\t0\tP\tG\t-\n1\t10\t1\tP\tG\t-\n");
+}
+
+/* Puts a text behind the elements of a partition. */
+static void put(size_t label, const uint8_t *path, size_t length)
+{
+    uint8_t *partition = store + label * DOSSIER_PARTITION_BYTES;
+    uint8_t *slot = partition + 4 + 40 * partition[0]++;
+    slot[0] = (uint8_t)(length / 3);
+    for (size_t at = 0; at < length / 3; at++) {
+        memcpy(slot + 1 + 2 * at, path + 3 * at, 2);
+        slot[13 + at] = path[3 * at + 2];
+    }
+    memcpy(slot + 19, "\2\2ab", 4);
+}
+
+/* A migration of the store answers a number and a mask. */
+static void migrated(const char *name, size_t length, uint32_t number, uint32_t mask)
+{
+    struct dossier_migration migration = dossier_migrate(store, length);
+    check(name, migration.number == number && migration.mask == mask);
+}
+
+/* A migration of the store answers a number and a mask and leaves the store that was kept. */
+static void not_migrated(const char *name, size_t length, uint32_t number, uint32_t mask)
+{
+    migrated(name, length, number, mask);
+    check(name, memcmp(store, kept, sizeof store) == 0);
+}
+
+/* The worked example of the migration: partition 9 is in the order of before, partition 5 is broken. */
+static void test_migration(void)
+{
+    static const uint8_t p10_8[] = {10, 0, 8}, p10_9[] = {10, 0, 9}, p11[] = {11, 0, 0};
+    static const uint8_t p10_1[] = {10, 0, 0, 1, 0, 9}, p10_8_1[] = {10, 0, 8, 1, 0, 9}, p10_9_1[] = {10, 0, 9, 1, 0, 9};
+    const uint8_t *nine = kept + 9 * DOSSIER_PARTITION_BYTES;
+    start();
+    put(0, LENT(p10)), put(0, LENT(p11)), put(8, LENT(p10_8));
+    put(9, LENT(p10_8_1)), put(9, LENT(p10_9)), put(9, LENT(p10_9_1)), put(9, LENT(p10_1));
+    store[5 * DOSSIER_PARTITION_BYTES + 2] = 1;
+    keep();
+    memset(store + 9 * DOSSIER_PARTITION_BYTES, 0, DOSSIER_PARTITION_BYTES);
+    put(9, LENT(p10_1)), put(9, LENT(p10_8_1)), put(9, LENT(p10_9)), put(9, LENT(p10_9_1));
+    check("the order of before is another", memcmp(store + 9 * DOSSIER_PARTITION_BYTES, nine, DOSSIER_PARTITION_BYTES) != 0);
+    check("9 is refused before", view(9, none, 0, sizeof output).number == DOSSIER_REFUSED_NOT_WELL_FORMED);
+    done("8 is served before", view(8, none, 0, sizeof output), 51);
+    migrated("the migration", DOSSIER_STORE_BYTES, DOSSIER_DONE, 1u << 5);
+    check("its order", memcmp(store, kept, sizeof store) == 0);
+    done("9 is served", view(9, none, 0, sizeof output), 104);
+    check("5 is refused", view(5, none, 0, sizeof output).number == DOSSIER_REFUSED_NOT_WELL_FORMED);
+    not_migrated("a second migration", DOSSIER_STORE_BYTES, DOSSIER_DONE, 544);
+    not_migrated("a shorter store", DOSSIER_STORE_BYTES - 1, DOSSIER_REFUSED_STORE_LENGTH, 0);
+    not_migrated("a longer store", DOSSIER_STORE_BYTES + 1, DOSSIER_REFUSED_STORE_LENGTH, 0);
+    not_migrated("a store of no bytes", 0, DOSSIER_REFUSED_STORE_LENGTH, 0);
+    start();
+    keep();
+    not_migrated("an empty store", DOSSIER_STORE_BYTES, DOSSIER_DONE, 0);
+}
+
+/* Reads a store file of tests. */
+static void read_store(const char *name, uint8_t *to)
+{
+    FILE *file = fopen(name, "rb");
+    check(name, file != NULL && fread(to, 1, DOSSIER_STORE_BYTES, file) == DOSSIER_STORE_BYTES && fgetc(file) == EOF);
+    if (file != NULL) {
+        fclose(file);
+    }
+}
+
+/* How many subjects are answered this number for a view of all. */
+static int subjects_answered(uint32_t number)
+{
+    static uint8_t all[DOSSIER_LISTING_BYTES_MAX];
+    int count = 0;
+    for (uint32_t subject = 0; subject < 32; subject++) {
+        count += dossier_view(store, DOSSIER_STORE_BYTES, subject, none, 0, all, sizeof all).number == number;
+    }
+    return count;
+}
+
+/* A store file that was written before the path order changed: what the reference in tools makes of it is kept. Its partitions 9,
+ * 16, 24 and 31 hold versions of one name at two levels: the sixteen subjects from 16 on dominate one of them, and 9, 11, 13, 15. */
+static void test_store_file(void)
+{
+    const uint32_t moved = 1u << 9 | 1u << 16 | 1u << 24 | 1u << 31;
+    start();
+    keep();
+    read_store("tests/before-order.store", store);
+    read_store("tests/after-order.store", kept);
+    check("twenty are refused by 3", subjects_answered(DOSSIER_REFUSED_NOT_WELL_FORMED) == 20);
+    check("the others are served", subjects_answered(DOSSIER_DONE) == 12);
+    migrated("the store file of before", DOSSIER_STORE_BYTES, DOSSIER_DONE, 0);
+    check("the migrated store file", memcmp(store, kept, sizeof store) == 0);
+    check("all are served", subjects_answered(DOSSIER_DONE) == 32);
+    not_migrated("the store file once more", DOSSIER_STORE_BYTES, DOSSIER_DONE, moved);
+}
+
 int main(void)
 {
     test_answer();
@@ -668,6 +782,9 @@ int main(void)
     test_grade_overlap();
     test_intake();
     test_intake_text();
+    test_order();
+    test_migration();
+    test_store_file();
     printf("%d passed, %d failed\n", passed, failed);
     return failed == 0 ? 0 : 1;
 }

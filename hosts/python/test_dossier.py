@@ -1,5 +1,5 @@
 """The calls through the module: document 01's example, every refusal, what is left untouched, what an update keeps, XML read
-back, grades, styles taken in as XML, and missing groups.
+back, grades, styles taken in as XML, missing groups, the order of versions, and the migration of stores written before.
 
     python3 hosts/python/test_dossier.py
 """
@@ -17,8 +17,8 @@ from fractions import Fraction
 
 import dossier
 from dossier import raw
-from dossier import Answer, Compartment, Grade, GradeAnswer, Group, Kind, Label, Level, Line, Measure, Refusal, Refused, Step
-from dossier import Store, Text, UnexpectedAnswer, Unreadable, View
+from dossier import Answer, Compartment, Grade, GradeAnswer, Group, Kind, Label, Level, Line, Mask, Measure, MigrationAnswer
+from dossier import Refusal, Refused, Step, Store, Text, UnexpectedAnswer, Unreadable, View
 from dossier.listing import read_xml
 
 # What every output holds before a call.
@@ -96,6 +96,14 @@ NOT_OWN = [
     '<e60 label="16" preserve="REMOVED" kind="-"><e61@"M">7</e61></e60>',
 ]
 
+# A store file that was written before the path order changed, and what the reference in tools makes of it.
+TESTS = pathlib.Path(__file__).resolve().parents[2] / "tests"
+BEFORE = (TESTS / "before-order.store").read_bytes()
+AFTER = (TESTS / "after-order.store").read_bytes()
+
+# The partitions of that file that hold versions of one name at two levels.
+MOVED = [9, 16, 24, 31]
+
 # What is no whole number, though some of it equals one or could be cut to one.
 NOT_WHOLE = [7.5, 1.0, float("nan"), Decimal(1), Fraction(1), 1j, "1", b"1", None]
 
@@ -152,6 +160,34 @@ def measured():
     store.insert(label(16), path((8, 0), (9, 16)), Measure(6))
     store.delete(label(0), path((8, 0)))
     store.insert(label(0), path((10, 0)), Text("SLEEVE"))
+    return store
+
+
+def partition(*paths):
+    """The bytes of a partition with texts at these paths, in the order in which they are given."""
+    slots = []
+    for steps in paths:
+        slot = bytearray(40)
+        slot[0] = len(steps)
+        for at, (name, number) in enumerate(steps):
+            slot[1 + 2 * at : 3 + 2 * at] = name.to_bytes(2, "little")
+            slot[13 + at] = number
+        slot[19:23] = b"\2\2ab"
+        slots.append(bytes(slot))
+    return (bytes([len(paths), 0, 0, 0]) + b"".join(slots)).ljust(raw.PARTITION_BYTES, b"\0")
+
+
+def part(buffer, number):
+    """The bytes of a label's partition in a store."""
+    return bytes(buffer[raw.PARTITION_BYTES * number : raw.PARTITION_BYTES * (number + 1)])
+
+
+def written_before():
+    """The store of the worked example of the migration, written before; partition 5 is broken."""
+    parts = {0: [[(10, 0)], [(11, 0)]], 8: [[(10, 8)]]}
+    parts[9] = [[(10, 0), (1, 9)], [(10, 8), (1, 9)], [(10, 9)], [(10, 9), (1, 9)]]
+    store = Store(bytearray(b"".join(partition(*parts.get(number, [])) for number in range(32))))
+    store.buffer[raw.PARTITION_BYTES * 5 + 2] = 1
     return store
 
 
@@ -674,6 +710,79 @@ class Refusals(CallTest):
             self.assert_view_refused(10, store, 16, b"", room)
 
 
+class Migration(CallTest):
+    """The order of versions, and the migration of stores written before."""
+
+    def test_highest_level_is_on_top(self):
+        store = Store()
+        for name, number in (10, 0), (10, 8), (10, 9), (10, 16), (10, 24), (10, 1), (9, 31):
+            self.assertEqual(store.insert(label(number), path((name, number)), Group()), 0)
+        expected = [(9, 31), (10, 24), (10, 16), (10, 8), (10, 9), (10, 0), (10, 1)]
+        self.assertEqual([(line.name, line.label.number) for line in store.view(label(31))], expected)
+        groups = "".join(sent_group(name, number) for name, number in expected)
+        self.assertEqual(store.view_xml(label(31)), f'<dossier subject="31">{groups}</dossier>')
+
+    def test_worked_example(self):
+        store = written_before()
+        self.assert_all_refused(3, store.buffer, 9, P10)
+        self.assertEqual(len(store.view(label(8)).listing), 51)
+        before = bytes(store.buffer)
+        self.assertEqual(store.migrate(), Mask(1 << 5))
+        order = partition([(10, 8), (1, 9)], [(10, 9)], [(10, 9), (1, 9)], [(10, 0), (1, 9)])
+        for number in range(32):
+            self.assertEqual(part(store.buffer, number), order if number == 9 else part(before, number), number)
+        self.assertEqual(len(store.view(label(9)).listing), 104)
+        self.assert_all_refused(3, store.buffer, 5, P10)
+        after = bytes(store.buffer)
+        self.assertEqual(store.migrate().labels(), [label(5), label(9)])
+        self.assertEqual(raw.migrate(store.buffer), MigrationAnswer(0, 544))
+        self.assertEqual(bytes(store.buffer), after)
+
+    def test_store_of_another_length(self):
+        twice = bytes(written_before().buffer) * 2
+        for length in 0, 1, raw.PARTITION_BYTES, raw.STORE_BYTES - 1, raw.STORE_BYTES + 1, len(twice):
+            buffer = bytearray(twice[:length])
+            self.assertEqual(raw.migrate(buffer), MigrationAnswer(1, 0), length)
+            self.assertEqual(buffer, twice[:length])
+            self.assert_raises_refusal(Refusal.STORE_LENGTH, Store(buffer).migrate)
+            self.assertEqual(buffer, twice[:length])
+        self.assertEqual(raw.migrate(bytearray(raw.STORE_BYTES)), MigrationAnswer(0, 0))
+        self.assertEqual(raw.migrate(bytearray(b"\xff" * raw.STORE_BYTES)), MigrationAnswer(0, 2**32 - 1))
+
+    def test_store_file_of_before(self):
+        store = Store(bytearray(BEFORE))
+        for number in range(32):
+            if any(label(number).dominates(label(moved)) for moved in MOVED):
+                self.assert_view_refused(3, store.buffer, number, b"")
+                self.assert_writers_refused(3, store.buffer, number, P10)
+            else:
+                self.assertGreater(len(list(store.view(label(number)))), 0)
+        self.assertEqual(bytes(store.buffer), BEFORE)
+        self.assertEqual(store.migrate().labels(), [])
+        self.assertEqual(bytes(store.buffer), AFTER)
+        for number in range(32):
+            self.assertGreater(len(list(store.view(label(number)))), 0)
+        self.assertEqual(self.versions(store, 9, 10), [8, 9, 0])
+        self.assertEqual(self.versions(store, 31, 50), [8 * level + rest for level in (3, 2, 1, 0) for rest in range(8)])
+        self.assertEqual(store.migrate().labels(), [label(moved) for moved in MOVED])
+        self.assertEqual(bytes(store.buffer), AFTER)
+        self.assertEqual(store.insert(label(9), path((10, 0), (2, 9)), Group()), 0)
+        self.assertEqual(store.delete(label(31), path((50, 0), (1, 31))), 1)
+
+    def versions(self, store, subject, name):
+        """The labels of the lines of one step with this name, in the order in which a subject sees them."""
+        lines = store.view(label(subject))
+        return [line.label.number for line in lines if (line.depth, line.name) == (1, name)]
+
+    def test_store_that_cannot_be_written(self):
+        self.assertRaises(TypeError, raw.migrate, BEFORE)
+
+    def test_masks(self):
+        self.assertEqual(Mask(0).labels(), [])
+        self.assertEqual(Mask(2**31 + 1).labels(), [label(0), label(31)])
+        self.assertEqual(Mask(2**32 - 1).labels(), [label(number) for number in range(32)])
+
+
 class Wrapper(CallTest):
     """What the module refuses itself, with the store untouched."""
 
@@ -744,7 +853,10 @@ class Wrapper(CallTest):
             self.assert_raises_refusal(refusal, Answer(int(refusal), 0).outcome)
             self.assert_raises_refusal(refusal, GradeAnswer(int(refusal), 0, 0).outcome)
         self.assertEqual(GradeAnswer(0, -4, 2).outcome(), Grade(-4, 2))
-        for answer in Answer(15, 0), Answer(7, 1), GradeAnswer(15, 0, 0), GradeAnswer(7, -1, 0), GradeAnswer(12, 0, 1):
+        self.assertEqual(MigrationAnswer(0, 544).outcome(), Mask(544))
+        self.assert_raises_refusal(Refusal.STORE_LENGTH, MigrationAnswer(1, 0).outcome)
+        unexpected = [Answer(15, 0), Answer(7, 1), GradeAnswer(15, 0, 0), GradeAnswer(7, -1, 0), GradeAnswer(12, 0, 1)]
+        for answer in unexpected + [MigrationAnswer(1, 1), MigrationAnswer(2, 0), MigrationAnswer(3, 0), MigrationAnswer(15, 0)]:
             with self.assertRaises(UnexpectedAnswer) as raised:
                 answer.outcome()
             self.assertEqual(raised.exception.answer, answer)
@@ -834,6 +946,7 @@ class Carried(CallTest):
             self.assert_carried(Refused(GradeAnswer(int(refusal), 0, 0)))
         self.assert_carried(UnexpectedAnswer(Answer(7, 1)))
         self.assert_carried(UnexpectedAnswer(GradeAnswer(7, -1, 2)))
+        self.assert_carried(UnexpectedAnswer(MigrationAnswer(3, 4)))
         self.assert_carried(Unreadable(b"1\t10"))
 
     def test_what_an_error_says(self):
@@ -843,10 +956,11 @@ class Carried(CallTest):
         self.assertEqual(str(UnexpectedAnswer(Answer(11, 2))), "unexpected answer: number 11, count 2")
         unexpected = UnexpectedAnswer(GradeAnswer(7, -1, 2))
         self.assertEqual(str(unexpected), "unexpected answer: number 7, step -1, remainder 2")
+        self.assertEqual(str(UnexpectedAnswer(MigrationAnswer(1, 5))), "unexpected answer: number 1, mask 5")
 
     def test_values(self):
         lines = list(example().view(label(16)))
-        answers = [Answer(7, 0), GradeAnswer(7, 0, 0), Grade(-4, 2)]
+        answers = [Answer(7, 0), GradeAnswer(7, 0, 0), Grade(-4, 2), MigrationAnswer(0, 544), Mask(544)]
         for value in answers + [label(19), Step(10, label(16)), Group(), Measure(-150), Text("SLEEVE"), lines]:
             self.assertEqual(pickle.loads(pickle.dumps(value)), value)
         self.assertEqual(pickle.loads(pickle.dumps(example())).buffer, example().buffer)

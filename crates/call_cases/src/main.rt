@@ -1,4 +1,4 @@
-// The seven calls, executed: reads records, carries out each on one store, and writes what the calls answer.
+// The seven calls and the migration, executed: reads records, carries out each on one store, and writes what they answer.
 // tools/call_cases.py makes the records and the output that they must give.
 mod fields;
 mod run;

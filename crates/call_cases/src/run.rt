@@ -4,8 +4,8 @@ use crate::show;
 use libc::STDOUT_FILENO;
 ghost use Prim.Native.Nat.{_≤_};
 
-// One record, by its first byte: the calls have the letters of the runner, M is the view as XML, G the even grade and T the XML intake; N
-// names the case by a line, Z clears the store, X corrupts it, S shows it.
+// One record, by its first byte: the calls have the letters of the runner, M is the view as XML, G the even grade and T the XML intake; O is
+// the migration; N names the case by a line, Z clears the store, X corrupts it, S shows it.
 pub fn record(
     store: &mut [u8; 42372],
     output: &mut [u8; 65536],
@@ -21,6 +21,7 @@ pub fn record(
         b'D' => delete(store, head, first),
         b'G' => grade(store, head, first, second),
         b'T' => insert_xml(store, head, first, second),
+        b'O' => migrate(store, head),
         b'X' => corrupt(store, head, first),
         b'Z' => fill(store, 0),
         b'S' => show::store(store),
@@ -87,6 +88,13 @@ fn insert_xml(store: &mut [u8], head: &[u8; 16], parent: &[u8], text: &[u8]) {
     let size = fields::store_length(head, store.len());
     let done = dossier_intake::insert_xml(&mut store[0..size], fields::subject(head), parent, text);
     show::answer(b"T", done.number, done.count);
+}
+
+// A migration.
+fn migrate(store: &mut [u8], head: &[u8; 16]) {
+    let size = fields::store_length(head, store.len());
+    let done = dossier_migrate::migrate(&mut store[0..size]);
+    show::answer(b"O", done.number, done.mask as usize);
 }
 
 // A view, into as many bytes of the output as the head says.

@@ -1,5 +1,6 @@
 // The calls as C functions. A slice is passed as a pointer and a length; the result is returned by value.
 ghost use Rattle.promise.specs.Did.{Viewed, Inserted, Updated, Deleted, ViewedXml, Graded, InsertedXml};
+ghost use Rattle.promise.specs.Migrated.{Migrated};
 
 // What a call answers: 0 or the number of its refusal, and its count.
 #[repr(C)]
@@ -14,6 +15,13 @@ pub struct Grade {
     pub number: u32,
     pub step: i64,
     pub remainder: u32,
+}
+
+// What the migration answers: 0 or the number of its refusal, and the mask.
+#[repr(C)]
+pub struct Migration {
+    pub number: u32,
+    pub mask: u32,
 }
 
 // Lists the path and everything in the subject's view below it into the output: how many bytes were written.
@@ -126,5 +134,17 @@ pub extern "C" fn dossier_insert_xml(
     Answer {
         number: done.number,
         count: done.count as u64,
+    }
+}
+
+// Gives each partition that is well formed in the order of before 7/14 the same elements in path order: the mask of the others.
+#[no_mangle]
+pub extern "C" fn dossier_migrate(store: &mut [u8]) -> Migration
+    ensures { λ r. ⌜ Migrated (now (store .entry)) (record { number = r .number; mask = r .mask }) (now (store .exit)) ⌝ }
+{
+    let told = dossier_migrate::migrate(store);
+    Migration {
+        number: told.number,
+        mask: told.mask,
     }
 }

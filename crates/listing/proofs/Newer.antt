@@ -17,7 +17,7 @@ use Rattle.model.proofs.Paths.{step-eq, step-refl, key-keyed, prefix-first}
 use Rattle.model.proofs.Lists.{drop-map}
 use Rattle.model.proofs.Prefixes.{prefix-length, length-prefixes, parent-above, parent-shorter}
 use Rattle.path.specs.Common.{common}
-use Rattle.path.proofs.Common.{common-prefix}
+use Rattle.path.proofs.Common.{before-none, common-prefix}
 use Rattle.listing.specs.Walk.{newer}
 
 -- ---- lists
@@ -99,9 +99,8 @@ length-newer r q =
 
 -- a path that comes after r has a step that r does not share
 pub common-less : (r q : List Step) → T (precedes (pathRank r) (pathRank q)) → common r q < length q
-unfolding key
 common-less [] [] t = absurd t
-common-less (a ∷ r) [] t = absurd t
+common-less (a ∷ r) [] t = absurd (subst T (before-none key (a ∷ r)) t)
 common-less [] (b ∷ q) t = omega arith
 common-less (a ∷ r) (b ∷ q) t =
     decide (sameStep a b)

@@ -10,7 +10,7 @@ use mir.Facts.{eqb-yes}
 use Rattle.model.specs.Lists
 use Rattle.model.specs.Lists.{all, isByte, sameBytes, pad, _∈_}
 use Rattle.model.specs.Label.{isLabel, level, sizing, fabric, cost, includes, dominates}
-use Rattle.model.specs.Path.{sameStep, validStep, validPath, key}
+use Rattle.model.specs.Path.{sameStep, validStep, validPath, key, formerKey}
 use Rattle.model.specs.Value.{isPrintable, allowed, storable, bringable}
 use Rattle.model.specs.Element.{validElement, contains, closed, remove}
 use Rattle.model.specs.Slot.{pathBytes, contentBytes, slotBytes, readPath, readContent, readSlot, unusedZero}
@@ -27,8 +27,9 @@ use Rattle.model.specs.Rows.{refusal, someRaw, goodPath, viewPath}
 use Rattle.model.specs.Groups.{seenSteps, ownBehind, missingPaths, withGroups}
 use Rattle.model.specs.Call.{subjectOf, callerRows, opRows, table, Result, count as counts, graded, Answer, Outcome, writes, changes, extending, makes, replaced, effect, refused, done, outcome, after}
 use Rattle.model.specs.Run.{answerOf, storeAfter, corrupted, feed}
+use Rattle.model.specs.Migration.{formerWellFormed, migrated}
 use Rattle.model.specs.Script.{ScriptCall, stepText, callText, inRange, callOf, linesOf, unreadLine, answerLines, output}
-use Rattle.model.specs.Cases.{Expected, holds, Case, dominance, onStore, calls, script, storeAfterAll, AllHeld, Holds, markedCases, furtherCases, cases}
+use Rattle.model.specs.Cases.{Expected, holds, Case, dominance, onStore, calls, migrating, script, storeAfterAll, AllHeld, Holds, markedCases, furtherCases, cases}
 use Rattle.model.proofs.Bools.{and-l, and-r, is-true, is-false}
 use Rattle.model.proofs.Lists.{sameBytes-eq}
 use Rattle.model.proofs.Members.{all-in}
@@ -64,14 +65,22 @@ modelOutput [] m = []
 modelOutput (none ∷ rs) m = unreadLine ++ modelOutput rs m
 modelOutput (some c ∷ rs) m = answerLines (outcome (callOf c) m .answer) ++ modelOutput rs (after (callOf c) m)
 
+abbrev sameBool : Bool → Bool → Bool
+sameBool b true = b
+sameBool b false = not b
+
 abbrev caseTest : Case → Bool
-caseTest (dominance l m true) = dominates l m
-caseTest (dominance l m false) = not (dominates l m)
+caseTest (dominance l m b) = sameBool (dominates l m) b
 caseTest (onStore s c a) = sameAnswer (answerOf c s) a
 caseTest (calls cs c a ls) = sameAnswer (outcome c (feed cs emptyModel) .answer) a && heldTest (after c (feed cs emptyModel)) ls
+caseTest (migrating n x f y) = sameBool (formerWellFormed n (pad partitionSize x)) f && sameBytes (migrated n (pad partitionSize x)) (pad partitionSize y)
 caseTest (script i o) = sameBytes (ascii o) (modelOutput (map readLine (linesOf (ascii i))) emptyModel)
 
 -- ---- a row that passes holds of the bytes
+
+same-bool : (a b : Bool) → T (sameBool a b) → a ≡ b
+same-bool a true t = is-true a t
+same-bool a false t = is-false a t
 
 same-whole : (a b : ℤ) → T (sameWhole a b) → a ≡ b
 unfolding sameWhole
@@ -117,8 +126,7 @@ output-model (some c ∷ rs) s m g =
 
 case-holds : (r : Case) → T (caseTest r) → Holds r
 unfolding answerOf
-case-holds (dominance l m true) t = is-true (dominates l m) t
-case-holds (dominance l m false) t = is-false (dominates l m) t
+case-holds (dominance l m b) t = same-bool (dominates l m) b t
 case-holds (onStore s c a) t = same-answer (answerOf c s) a t
 case-holds (calls cs c a ls) t =
     let s : List ℕ = storeAfterAll cs in
@@ -128,6 +136,11 @@ case-holds (calls cs c a ls) t =
           ∙ same-answer (outcome c m .answer) a (and-l (sameAnswer (outcome c m .answer) a) (heldTest (after c m) ls) t),
       all-held ls (storeAfter c s) (after c m) (agree-seen call-lawful 31 c s m (all-remain c) g)
           (and-r (sameAnswer (outcome c m .answer) a) (heldTest (after c m) ls) t),
+    )
+case-holds (migrating n x f y) t =
+    let b : List ℕ = pad partitionSize x in (
+      same-bool (formerWellFormed n b) f (and-l (sameBool (formerWellFormed n b) f) (sameBytes (migrated n b) (pad partitionSize y)) t),
+      sameBytes-eq (migrated n b) (pad partitionSize y) (and-r (sameBool (formerWellFormed n b) f) (sameBytes (migrated n b) (pad partitionSize y)) t),
     )
 case-holds (script i o) t =
     let rs : List (Option ScriptCall) = map readLine (linesOf (ascii i)) in
@@ -144,7 +157,7 @@ unfolding sameWhole sameResult sameAnswer emptyModel cases markedCases furtherCa
     xmlView elementsOf wholeOf measureAt subjectOf refusal someRaw goodPath viewPath callerRows opRows table writes changes extending makes replaced effect
     seenSteps ownBehind missingPaths withGroups
     refused done outcome after answerOf storeAfter corrupted emptyStore callText inRange stepText callOf unreadLine answerLines
-    isDigit callGuess stepGuess readable readLine
+    isDigit callGuess stepGuess readable readLine formerKey migrated
 tested = tt
 
 -- each row of the table holds

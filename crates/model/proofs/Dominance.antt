@@ -3,7 +3,7 @@ use mathlib.Core.Path.{_≡_}
 use Prim.Native.Nat.{ℕ, _+_, _*_, _/_, _≤_, _<_}
 use native.Mathlib.Omega.{arith}
 use lib.Dec.{T}
-use mir.Facts.{ltb-yes, leb-yes, yes-leb}
+use mir.Facts.{ltb-yes, yes-ltb, leb-yes, yes-leb}
 use Rattle.model.specs.Lists.{_∈_}
 use Rattle.model.specs.Label.{labels, isLabel, level, sizing, fabric, cost, includes, dominates}
 use Rattle.model.proofs.Bools.{and-l, and-r, both}
@@ -12,6 +12,10 @@ use Rattle.model.proofs.Walks.{in-range}
 pub label-lt : (n : ℕ) → T (isLabel n) → n < 32
 unfolding isLabel
 label-lt n t = ltb-yes t
+
+pub lt-label : (n : ℕ) → n < 32 → T (isLabel n)
+unfolding isLabel
+lt-label n h = yes-ltb h
 
 -- it is one of the list
 pub in-labels : (n : ℕ) → T (isLabel n) → n ∈ labels

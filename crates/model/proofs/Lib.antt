@@ -19,6 +19,11 @@ pub mod Taking
 pub mod Groups
 pub mod Operations
 pub mod Noninterference
+pub mod Steps
+pub mod Resorting
+pub mod Bits
+pub mod Joined
+pub mod Migrating
 pub mod Refusals
 pub mod Updates
 pub mod Making

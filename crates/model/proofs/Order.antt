@@ -2,7 +2,7 @@
 -- ascending list is determined by its members.
 use mathlib.Core.Path.{_≡_, refl, sym, ap, ap₂, _∙_, subst}
 use mathlib.Core.Logic.{_⊎_, inl, inr}
-use mathlib.Core.Bool.{Bool, not, cond, _&&_}
+use mathlib.Core.Bool.{Bool, false, not, cond, _&&_, _||_}
 use mathlib.Core.List.{List, [], _∷_, _++_, List·Memᴰ·head, List·Memᴰ·tail, List·Memᴰ·cases-cons, List·Memᴰ·not-nil, List·Memᴰ·append-cases}
 use Prim.Native.Nat.{ℕ, suc, _≤_, _<_}
 use native.Mathlib.Omega.{arith}
@@ -67,6 +67,18 @@ precedes-cancel [] u v = refl
 precedes-cancel (a ∷ x) u v =
     let h : a ≤ a = omega arith in
     rw (is-false (ltb a a) (no-ltb h), is-true (eqb a a) (eqb-refl a)) (precedes-cancel x u v)
+
+-- the first of two lists that differ, whatever stands behind them
+pub precedes-differ : (x y u v : List ℕ) → length x ≡ length y → (x ≡ y → ⊥) → precedes (x ++ u) (y ++ v) ≡ precedes x y
+precedes-differ [] [] u v l d = absurd (d refl)
+precedes-differ [] (b ∷ y) u v l d = absurd (omega arith)
+precedes-differ (a ∷ x) [] u v l d = absurd (omega arith)
+precedes-differ (a ∷ x) (b ∷ y) u v l d =
+    decide (eqb a b)
+    (λ (t : T (eqb a b)).
+    let e : a ≡ b = eqb-yes t in
+    ap (λ (r : Bool). ltb a b || (eqb a b && r)) (precedes-differ x y u v (omega arith) (λ q. d (ap₂ (λ (c : ℕ) (z : List ℕ). c ∷ z) e q))))
+    (λ (t : T (not (eqb a b))). let f : eqb a b ≡ false = is-false (eqb a b) t in rw f)
 
 module _ {A : Type 0} (rank : A → List ℕ) where
   pub ahead-trans : (x y : A) (l : List A) → T (isBefore rank x y) → T (ahead rank y l) → T (ahead rank x l)

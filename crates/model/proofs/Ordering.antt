@@ -8,18 +8,18 @@ use mathlib.Core.List.{List, [], _∷_, _++_, List·Memᴰ·head, List·Memᴰ·
 use Prim.Native.Nat.{ℕ, suc, _<_}
 use native.Mathlib.Omega.{arith}
 use lib.ListN.{length}
-use lib.Dec.{T, eqb, ltb}
-use mir.Facts.{T-not, or-yes}
+use lib.Dec.{T}
+use mir.Facts.{T-not}
 use Rattle.model.specs.Lists.{any, _∈_}
 use Rattle.model.specs.Sets.{precedes, isBefore, ahead, sorted}
 use Rattle.model.specs.Path.{Step, sameStep, isPrefix, key, pathRank}
 use Rattle.model.specs.Value.{Content}
 use Rattle.model.specs.Tree.{Forest, empty, element, Entry, entries}
 use Rattle.model.specs.Intake.{siblings, differ, inForm}
-use Rattle.model.proofs.Bools.{and-l, and-r, both, or-l, or-r, decide, cond-yes, cond-no}
+use Rattle.model.proofs.Bools.{and-l, and-r, both, decide, cond-yes, cond-no}
 use Rattle.model.proofs.Members.{all-in, in-all, not-any}
 use Rattle.model.proofs.Alike.{Alike, alike-refl, alike-trans, parts-cases, within, alike-parts, swap, alike-swap}
-use Rattle.model.proofs.Order.{precedes-total, precedes-asym, precedes-cancel, ahead-trans, sorted-append}
+use Rattle.model.proofs.Order.{precedes-total, precedes-irrefl, precedes-asym, precedes-cancel, precedes-differ, ahead-trans, sorted-append}
 use Rattle.model.proofs.Paths.{step-eq, step-refl, prefix-refl, key-keyed, prefix-first}
 use Rattle.model.proofs.Trees.{entryRank, prefix-front, longer-below}
 use Rattle.model.proofs.Sending.{form-parts}
@@ -163,16 +163,7 @@ extension-after q b x t =
 
 -- ranks of one length decide what they begin
 precedes-front : (x y u v : List ℕ) → length x ≡ length y → T (precedes x y) → T (precedes (x ++ u) (y ++ v))
-precedes-front [] [] u v l t = absurd t
-precedes-front [] (b ∷ y) u v l t = absurd (omega arith)
-precedes-front (a ∷ x) [] u v l t = absurd t
-precedes-front (a ∷ x) (b ∷ y) u v l t = go (or-yes (ltb a b) (eqb a b && precedes x y) t) (λ k. precedes-front x y u v (omega arith) k)
-  where
-    go : T (ltb a b) ⊎ T (eqb a b && precedes x y) → (T (precedes x y) → T (precedes (x ++ u) (y ++ v))) → T (precedes (a ∷ (x ++ u)) (b ∷ (y ++ v)))
-    go (inl h) f = or-l (ltb a b) (eqb a b && precedes (x ++ u) (y ++ v)) h
-    go (inr h) f =
-        or-r (ltb a b) (eqb a b && precedes (x ++ u) (y ++ v))
-        (both (eqb a b) (precedes (x ++ u) (y ++ v)) (and-l (eqb a b) (precedes x y) h) (f (and-r (eqb a b) (precedes x y) h)))
+precedes-front x y u v l t = rw (precedes-differ x y u v l (λ e. precedes-irrefl y (rw e at t))) t
 
 -- siblings decide what stands below them
 siblings-after : (r : List Step) (a b : Step) (x y : List Step) → T (isBefore key a b) → T (isPrefix (r ++ (a ∷ [])) x) → T (isPrefix (r ++ (b ∷ [])) y)

@@ -145,9 +145,10 @@ module _ (n : ℕ) where
   bytes-all (e ∷ es) t =
       bytes-append (slot-bytes n e (and-l (validElement n e) (all (validElement n) es) t)) (bytes-all es (and-r (validElement n e) (all (validElement n) es) t))
 
-module _ (k : Step → List ℕ) (n : ℕ) (es : List Element) (f : ValidSet k n es) where
+-- at most 32 valid elements, in any order
+module _ (n : ℕ) (es : List Element) (few : length es ≤ 32) (valid : T (all (validElement n) es)) where
   slots-short : length (gather slotBytes es) ≤ 1280
-  slots-short = rw length-slots (omega (arith, f .few))
+  slots-short = rw length-slots (omega arith)
 
   slots-behind : drop slotsAt (layout es) ≡ gather slotBytes es ++ (replicate (1280 - length (gather slotBytes es)) 0 ++ [])
   slots-behind = at-slots es ∙ pad-short 1280 (gather slotBytes es) slots-short ∙ sym (ap (λ (l : List ℕ). gather slotBytes es ++ l) (append-nil _))
@@ -156,31 +157,36 @@ module _ (k : Step → List ℕ) (n : ℕ) (es : List Element) (f : ValidSet k n
   unfolding slots
   slots-layout = ap (range (slotAt (layout es)) 0) (count-layout es) ∙ read-slots (layout es) es 0 _ slots-behind
 
-  -- a valid set is read back from its layout
-  pub read-layout : readPartition (layout es) ≡ es
+  -- they are read back from their layout
+  pub read-elements : readPartition (layout es) ≡ es
   unfolding readPartition
-  read-layout = ap (map readSlot) slots-layout ∙ read-all n es (f .valid)
+  read-elements = ap (map readSlot) slots-layout ∙ read-all n es valid
 
   layout-bytes : Bytes (layout es)
   unfolding layout
   layout-bytes =
-      let h : length es < 256 = omega (arith, f .few) in
+      let h : length es < 256 = omega arith in
       let none : Bytes [] = record { bytes = tt } in
-      bytes-append (bytes-append (bytes-pad 1 (bytes-one h)) (bytes-pad 3 none)) (bytes-pad 1280 (bytes-all n es (f .valid)))
+      bytes-append (bytes-append (bytes-pad 1 (bytes-one h)) (bytes-pad 3 none)) (bytes-pad 1280 (bytes-all n es valid))
+
+module _ (k : Step → List ℕ) (n : ℕ) (es : List Element) (f : ValidSet k n es) where
+  -- a valid set is read back from its layout
+  pub read-layout : readPartition (layout es) ≡ es
+  read-layout = read-elements n es (f .few) (f .valid)
 
   pub layout-well-formed : WellFormed k n (layout es)
   unfolding layout pad
   layout-well-formed =
       record {
         size = length-layout es;
-        bytes = layout-bytes .bytes;
+        bytes = layout-bytes n es (f .few) (f .valid) .bytes;
         few = rw (count-layout es) (f .few);
         valid = rw read-layout (f .valid);
-        unused = rw slots-layout (unused-all n es (f .valid));
+        unused = rw (slots-layout n es (f .few) (f .valid)) (unused-all n es (f .valid));
         ascends = rw read-layout (f .ascends);
         spare =
             rw (count-layout es)
-            (zeros-behind (layout es) slotsAt (1280 - length (gather slotBytes es)) (gather slotBytes es) [] slots-behind
+            (zeros-behind (layout es) slotsAt (1280 - length (gather slotBytes es)) (gather slotBytes es) [] (slots-behind n es (f .few) (f .valid))
             (slotStart (length es)) partitionSize (rw length-slots) (rw length-slots (omega (arith, f .few))));
         head = tt;
         closes = rw read-layout (f .closes);

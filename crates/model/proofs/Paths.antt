@@ -11,7 +11,7 @@ use lib.Dec.{T, eqb, ltb, eqb-refl}
 use mir.Facts.{or-no, leb-yes, eqb-yes, yes-eqb, ltb-yes, ltb-no, T-not}
 use Rattle.model.specs.Sets.{precedes}
 use Rattle.model.specs.Label.{isLabel, dominates}
-use Rattle.model.specs.Path.{Step, validStep, sameStep, samePath, isPrefix, prefixes, parent, endsIn, labelsAscend, key, keys}
+use Rattle.model.specs.Path.{Step, validStep, sameStep, samePath, isPrefix, prefixes, parent, endsIn, labelsAscend, key, formerKey, keys}
 use Rattle.model.specs.Lists.{_∈_}
 use Rattle.model.proofs.Bools.{and-l, and-r, both, not-second}
 use Rattle.model.proofs.Members.{map-in, in-map}
@@ -133,6 +133,14 @@ pub record Keyed (k : Step → List ℕ) : Type 0 where
 pub key-keyed : Keyed key
 unfolding key
 key-keyed = record {
+  injective = λ a b e. let n : a .name ≡ b .name = cc in let l : a .label ≡ b .label = cc in λ i. record { name = n i; label = l i };
+  width = λ a b. refl;
+  filled = λ a. omega arith;
+}
+
+pub former-keyed : Keyed formerKey
+unfolding formerKey
+former-keyed = record {
   injective = λ a b e. let n : a .name ≡ b .name = cc in let l : a .label ≡ b .label = cc in λ i. record { name = n i; label = l i };
   width = λ a b. refl;
   filled = λ a. omega arith;

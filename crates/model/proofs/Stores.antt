@@ -15,6 +15,7 @@ use Rattle.model.specs.Label.{isLabel}
 use Rattle.model.specs.Partition.{partitionSize}
 use Rattle.model.specs.Store.{storeSize, partitionStart, hasPartition, partition, replace}
 use Rattle.model.proofs.Bools.{and-l, and-r, both, decide, cond-yes, cond-no}
+use Rattle.model.proofs.Lists.{length-between}
 use Rattle.model.proofs.Dominance.{label-lt}
 
 -- a store that has partition n
@@ -96,6 +97,13 @@ replace-none n x s t = cond-no (hasPartition n s) (placed n x s) s t
 pub partition-part : (n : ℕ) (s : List ℕ) → T (hasPartition n s) → partition n s ≡ part n s
 unfolding partition
 partition-part n s t = cond-yes (hasPartition n s) (part n s) [] t
+
+pub length-partition : (n : ℕ) (s : List ℕ) → T (hasPartition n s) → length (partition n s) ≡ partitionSize
+length-partition n s t =
+    let h : Has n s = has n s t in
+    ap length (partition-part n s t)
+    ∙ length-between (partitionStart n) (partitionStart n + partitionSize) s (omega arith) (omega (arith, h .size, h .label))
+    ∙ part-size n
 
 pub length-replace : (n : ℕ) (x s : List ℕ) → length x ≡ partitionSize → length (replace n x s) ≡ length s
 length-replace n x s fit =

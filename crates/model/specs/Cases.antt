@@ -18,6 +18,7 @@ use Rattle.model.specs.Text.{ascii}
 use Rattle.model.specs.Tree.{Forest, empty, element}
 use Rattle.model.specs.Call.{view, insert, update, delete, viewXml, grade, insertXml, Call, by, count, gradeTold, Answer}
 use Rattle.model.specs.Run.{answerOf, storeAfter, call, corrupted, run}
+use Rattle.model.specs.Migration.{formerWellFormed, migrated}
 use Rattle.model.specs.Script.{lentPath, Prints}
 
 -- ---- what a row says
@@ -33,6 +34,8 @@ pub data Case : Type 0 where
   onStore : (store : List ℕ) (last : Call) (answer : Answer) → Case
   -- a call on the empty store after other calls: its answer, and partitions afterwards
   calls : (before : List Call) (last : Call) (answer : Answer) (partitions : List Expected) → Case
+  -- a partition migrated, of bytes with zeros behind them: whether it was well formed in the order of before, and its bytes afterwards
+  migrating : (label : ℕ) (before : List ℕ) (formed : Bool) (bytes : List ℕ) → Case
   -- what the runner prints for an input
   script : (input : String) (output : String) → Case
 
@@ -47,6 +50,8 @@ abbrev pub Holds : Case → Type 0
 Holds (dominance l m b) = dominates l m ≡ b
 Holds (onStore s c a) = answerOf c s ≡ a
 Holds (calls cs c a ls) = (answerOf c (storeAfterAll cs) ≡ a) × AllHeld ls (storeAfter c (storeAfterAll cs))
+Holds (migrating n x f y) =
+    (formerWellFormed n (pad partitionSize x) ≡ f) × (migrated n (pad partitionSize x) ≡ pad partitionSize y)
 Holds (script i o) = Prints (ascii i) (ascii o)
 
 -- ---- names for the rows
@@ -144,6 +149,10 @@ xmlCalls =
 abbrev short : ℕ → ℕ → List ℕ
 short n l = path (step n l ∷ [])
 
+-- the version of 10 of a label
+abbrev version : ℕ → Call
+version l = by l (insert (short 10 l) group)
+
 -- 7:16, under the group 6:0
 abbrev p7 : List ℕ
 p7 = path (step 6 0 ∷ step 7 16 ∷ [])
@@ -229,6 +238,20 @@ deepSlot n k c v =
 
 abbrev zeros : ℕ → List ℕ
 zeros n = replicate n 0
+
+-- texts of label 9: 10:9, and 1:9 under a version of 10
+abbrev top9 : List ℕ
+top9 = slot 1 (10 ∷ zeros 11) (9 ∷ zeros 5) 2 1 (67 ∷ zeros 18)
+
+abbrev below10 : ℕ → ℕ → List ℕ
+below10 l c = slot 2 (10 ∷ 0 ∷ 1 ∷ zeros 9) (l ∷ 9 ∷ zeros 4) 2 1 (c ∷ zeros 18)
+
+-- the partition of these in the order of before and in path order
+abbrev former9 : List ℕ
+former9 = (4 ∷ 0 ∷ 0 ∷ 0 ∷ []) ++ below10 0 65 ++ below10 8 66 ++ top9 ++ below10 9 68
+
+abbrev ordered9 : List ℕ
+ordered9 = (4 ∷ 0 ∷ 0 ∷ 0 ∷ []) ++ below10 8 66 ++ top9 ++ below10 9 68 ++ below10 0 65
 
 -- ---- the rows
 
@@ -328,9 +351,19 @@ furtherCases =
     -- a partition that is not well formed: the subjects that dominate it are refused, no others
     ∷ onStore (corrupted 0 (33 ∷ []) emptyStore) (by 16 (view [] 16384)) (refusedBy 3)
     ∷ onStore (corrupted 16 (33 ∷ []) emptyStore) (by 0 (view [] 16384)) (printed 9 "VIEW\t0\t0\n")
-    -- the versions of a name stand together, by their labels
-    ∷ calls (numbered 11 ∷ higher10 ∷ insert10 ∷ []) (by 16 (view [] 16384))
-    (printed 50 "VIEW\t16\t3\n1\t10\t0\tP\tG\t-\n1\t10\t16\tP\tG\t-\n1\t11\t0\tP\tG\t-\n") []
+    -- the versions of a name stand together, the highest level first, and those of one level by their compartments
+    ∷ calls (numbered 11 ∷ insert10 ∷ higher10 ∷ []) (by 16 (view [] 16384))
+    (printed 50 "VIEW\t16\t3\n1\t10\t16\tP\tG\t-\n1\t10\t0\tP\tG\t-\n1\t11\t0\tP\tG\t-\n") []
+    ∷ calls (map version (0 ∷ 8 ∷ 9 ∷ 16 ∷ 24 ∷ 1 ∷ []) ++ (by 31 (insert (short 9 31) group) ∷ [])) (by 31 (view [] 16384))
+    (printed 103
+    "VIEW\t31\t7\n1\t9\t31\tP\tG\t-\n1\t10\t24\tP\tG\t-\n1\t10\t16\tP\tG\t-\n1\t10\t8\tP\tG\t-\n1\t10\t9\tP\tG\t-\n1\t10\t0\tP\tG\t-\n1\t10\t1\tP\tG\t-\n")
+    []
+    -- the migration of a partition of before, of the one that it leaves, and of one that is well formed in no order; before it the subjects
+    -- that dominate the first are refused
+    ∷ migrating 9 former9 true ordered9
+    ∷ migrating 9 ordered9 false ordered9
+    ∷ migrating 5 (0 ∷ 0 ∷ 1 ∷ []) false (0 ∷ 0 ∷ 1 ∷ [])
+    ∷ onStore (corrupted 9 former9 emptyStore) (by 9 (view [] 16384)) (refusedBy 3)
     -- names are compared as numbers
     ∷ calls (map numbered (257 ∷ 255 ∷ 256 ∷ [])) (by 0 (view [] 16384))
     (printed 51 "VIEW\t0\t3\n1\t255\t0\tP\tG\t-\n1\t256\t0\tP\tG\t-\n1\t257\t0\tP\tG\t-\n") []

@@ -16,7 +16,11 @@ labels = range (λ n. n) 0 32
 unfoldable pub level : ℕ → ℕ
 level l = l / 8
 
--- the compartments, each 0 or 1: their number is a sum of 1 (sizing), 2 (fabric) and 4 (cost)
+-- the compartments number: a sum of 1 (sizing), 2 (fabric) and 4 (cost)
+unfoldable pub compartments : ℕ → ℕ
+compartments l = l % 8
+
+-- each compartment, 0 or 1
 unfoldable pub sizing : ℕ → ℕ
 sizing l = l % 2
 

@@ -20,5 +20,6 @@ pub mod Groups
 pub mod Rows
 pub mod Call
 pub mod Run
+pub mod Migration
 pub mod Script
 pub mod Cases

@@ -1,12 +1,12 @@
 -- Steps, paths and path order (document 01, "Elements" and "The store's bytes").
-use mathlib.Core.Bool.{Bool, true, false, _&&_}
+use mathlib.Core.Bool.{Bool, true, false, _&&_, _||_}
 use mathlib.Core.Option.{Option, none, some}
 use mathlib.Core.List.{List, [], _∷_, _++_, map}
-use Prim.Native.Nat.{ℕ, _+_, _*_}
+use Prim.Native.Nat.{ℕ, _+_, _-_, _*_}
 use lib.ListN.{length}
-use lib.Dec.{eqb, leb}
+use lib.Dec.{eqb, leb, ltb}
 use Rattle.model.specs.Lists.{all}
-use Rattle.model.specs.Label.{isLabel, dominates}
+use Rattle.model.specs.Label.{isLabel, level, compartments, dominates}
 
 pub record Step : Type 0 where
   pub name : ℕ
@@ -78,9 +78,29 @@ stepsOf (lo ∷ hi ∷ l ∷ p) = record { name = lo + 256 * hi; label = l } ∷
 
 -- ---- path order: step by step by a key; a prefix comes before its extensions
 
--- the name first and then the label number. Different steps must have different keys, and all keys one length (`Keyed`)
+-- the order of steps (document 02, 7/14): names, then level from high to low, then compartments number from low to high
+unfoldable pub stepBefore : Step → Step → Bool
+stepBefore a b =
+    ltb (a .name) (b .name)
+    || (eqb (a .name) (b .name)
+    && (ltb (level (b .label)) (level (a .label))
+    || (eqb (level (a .label)) (level (b .label)) && ltb (compartments (a .label)) (compartments (b .label)))))
+
+-- and of paths: step by step, a prefix before its extensions
+abbrev pub pathPrecedes : List Step → List Step → Bool
+pathPrecedes [] [] = false
+pathPrecedes [] (b ∷ q) = true
+pathPrecedes (a ∷ p) [] = false
+pathPrecedes (a ∷ p) (b ∷ q) = stepBefore a b || (sameStep a b && pathPrecedes p q)
+
+-- that order as a key, which tells apart what is no label too: of valid steps it is the same order (`rank-order`). Different steps must
+-- have different keys, and all keys one length (`Keyed`)
 unfoldable pub key : Step → List ℕ
-key a = a .name ∷ a .label ∷ []
+key a = a .name ∷ (3 - level (a .label)) ∷ a .label ∷ []
+
+-- the key of before 7/14: the name first and then the label number
+unfoldable pub formerKey : Step → List ℕ
+formerKey a = a .name ∷ a .label ∷ []
 
 -- a path's rank in the order of a key
 abbrev pub keys : (Step → List ℕ) → List Step → List ℕ

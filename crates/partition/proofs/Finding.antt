@@ -175,7 +175,7 @@ module _ {b : List ℕ} {p : List Step} {c i : ℕ} (inv : Finding b p c i) wher
           }
 
 -- the elements from slot k on
-elements-from : (b : List ℕ) (k : ℕ) → k ≤ count b → drop k (readPartition b) ≡ rest (elementAt b) (count b) k
+pub elements-from : (b : List ℕ) (k : ℕ) → k ≤ count b → drop k (readPartition b) ≡ rest (elementAt b) (count b) k
 elements-from b k h =
     let z : 0 + k ≡ k = omega arith in
     ap (drop k) (elements-range b ∙ range-split (elementAt b) 0 k (count b) h)

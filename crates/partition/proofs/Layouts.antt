@@ -26,7 +26,7 @@ abbrev head : ℕ → List ℕ
 head c = c ∷ 0 ∷ 0 ∷ 0 ∷ []
 
 -- n elements laid out, at most 32: the head, the slots, zeros
-layout-joined : (l xs r : List Element) (n : ℕ) → length (l ++ (xs ++ r)) ≡ n → n ≤ 32
+pub layout-joined : (l xs r : List Element) (n : ℕ) → length (l ++ (xs ++ r)) ≡ n → n ≤ 32
     → layout (l ++ (xs ++ r)) ≡ (head n ++ gather slotBytes l) ++ (gather slotBytes xs ++ (gather slotBytes r ++ replicate (1280 - slotSize * n) 0))
 unfolding layout pad
 layout-joined l xs r n e h =

@@ -4,11 +4,12 @@ ghost use mathlib.Core.List.{[], _++_};
 ghost use Prim.Native.Nat.{ℕ, _+_, _<_, _≤_};
 ghost use lib.ListN.{length, take, drop};
 ghost use Rattle.model.specs.Lists.{any, allZero, between};
-ghost use Rattle.model.specs.Path.{samePath, isPrefix, parent, endsIn, stepsOf};
+ghost use Rattle.model.specs.Path.{samePath, isPrefix, parent, endsIn, stepsOf, formerKey};
 ghost use Rattle.model.specs.Slot.{slotSize, depth, readPath};
-ghost use Rattle.model.specs.Partition.{partitionSize, count, slotStart, layout, slotAt, slots, readPartition, wellFormed};
+ghost use Rattle.model.specs.Partition.{partitionSize, count, slotStart, layout, slotAt, slots, readPartition, wellFormedBy, wellFormed};
 ghost use Rattle.model.specs.Element.{remove};
 ghost use Rattle.model.specs.Call.{extending, added};
+ghost use Rattle.path.specs.Steps.{keyOf};
 ghost use Rattle.path.specs.Common.{common};
 ghost use Rattle.slot.specs.Slot.{Readable};
 ghost use Rattle.partition.specs.Linked.{mayFollow, goodSlot, goodSlots, pathBefore};
@@ -53,12 +54,12 @@ fn parent_ends_in(slot: &[u8], n: u8) -> bool
     slot::step_label(slot, d - 2) == n
 }
 
-// Whether b's path may follow a's in partition n.
-fn may_follow(a: &[u8], b: &[u8], n: u8) -> bool
+// Whether b's path may follow a's in partition n, in the order of before 7/14 or in path order.
+fn may_follow(a: &[u8], b: &[u8], n: u8, former: bool) -> bool
     requires { ⌜ Readable (now a) × Readable (now b) ⌝ }
-    ensures { λ r. ⌜ r ≡ mayFollow n (readPath (now (a .entry))) (readPath (now (b .entry))) ⌝ }
+    ensures { λ r. ⌜ r ≡ mayFollow (keyOf former) n (readPath (now (a .entry))) (readPath (now (b .entry))) ⌝ }
 {
-    let m = slot::compare(a, b);
+    let m = slot::compare_by(a, b, former);
     if !m.before {
         return false;
     }
@@ -68,11 +69,11 @@ fn may_follow(a: &[u8], b: &[u8], n: u8) -> bool
     slot::depth(b) <= m.shared + 1
 }
 
-// Whether slot i is valid and follows the slot before it.
-fn slot_good(part: &[u8], i: usize, n: u8) -> bool
+// Whether slot i is valid and follows the slot before it, in the order of before 7/14 or in path order.
+fn slot_good(part: &[u8], i: usize, n: u8, former: bool) -> bool
     requires { ⌜ (length (now part) ≡ partitionSize) × (i < 32) ⌝ }
     requires { ⌜ ((k : ℕ) → k + 1 ≡ i → depth (slotAt (now part) k) ≤ 6) ⌝ }
-    ensures { λ r. ⌜ r ≡ goodSlot n (pathBefore (now (part .entry)) i) (slotAt (now (part .entry)) i) ⌝ }
+    ensures { λ r. ⌜ r ≡ goodSlot (keyOf former) n (pathBefore (now (part .entry)) i) (slotAt (now (part .entry)) i) ⌝ }
 {
     let s = slot_at(part, i);
     if !slot_valid::is_valid(s, n) {
@@ -81,17 +82,17 @@ fn slot_good(part: &[u8], i: usize, n: u8) -> bool
     if i == 0 {
         return !parent_ends_in(s, n);
     }
-    may_follow(slot_at(part, i - 1), s, n)
+    may_follow(slot_at(part, i - 1), s, n, former)
 }
 
-// Whether the first c slots are valid, each following the one before.
-fn slots_good(part: &[u8], c: usize, n: u8) -> bool
+// Whether the first c slots are valid, each following the one before, in the order of before 7/14 or in path order.
+fn slots_good(part: &[u8], c: usize, n: u8, former: bool) -> bool
     requires { ⌜ (length (now part) ≡ partitionSize) × (c ≡ count (now part)) × (c ≤ 32) ⌝ }
-    ensures { λ r. ⌜ r ≡ goodSlots n [] (slots (now (part .entry))) ⌝ }
+    ensures { λ r. ⌜ r ≡ goodSlots (keyOf former) n [] (slots (now (part .entry))) ⌝ }
 {
     let mut i: usize = 0;
     while i < c {
-        if !slot_good(part, i, n) {
+        if !slot_good(part, i, n, former) {
             return false;
         }
         i += 1;
@@ -99,10 +100,10 @@ fn slots_good(part: &[u8], c: usize, n: u8) -> bool
     true
 }
 
-// Whether a partition is well formed for label n.
-pub fn is_well_formed(part: &[u8], n: u8) -> bool
+// Whether a partition is well formed for label n, in the order of before 7/14 or in path order.
+fn is_formed_by(part: &[u8], n: u8, former: bool) -> bool
     requires { ⌜ (length (now part) ≡ partitionSize) × (n < 32) ⌝ }
-    ensures { λ r. ⌜ r ≡ wellFormed n (now (part .entry)) ⌝ }
+    ensures { λ r. ⌜ r ≡ wellFormedBy (keyOf former) n (now (part .entry)) ⌝ }
 {
     let c = count(part);
     if 32 < c {
@@ -114,7 +115,23 @@ pub fn is_well_formed(part: &[u8], n: u8) -> bool
     if !spare_zero(part, c) {
         return false;
     }
-    slots_good(part, c, n)
+    slots_good(part, c, n, former)
+}
+
+// Whether a partition is well formed for label n.
+pub fn is_well_formed(part: &[u8], n: u8) -> bool
+    requires { ⌜ (length (now part) ≡ partitionSize) × (n < 32) ⌝ }
+    ensures { λ r. ⌜ r ≡ wellFormed n (now (part .entry)) ⌝ }
+{
+    is_formed_by(part, n, false)
+}
+
+// Whether a partition is well formed for label n but for its order, which is that of before 7/14.
+pub fn is_well_formed_former(part: &[u8], n: u8) -> bool
+    requires { ⌜ (length (now part) ≡ partitionSize) × (n < 32) ⌝ }
+    ensures { λ r. ⌜ r ≡ wellFormedBy formerKey n (now (part .entry)) ⌝ }
+{
+    is_formed_by(part, n, true)
 }
 
 // Where a path stands in a partition or would stand, and whether it is there.

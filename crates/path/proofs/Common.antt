@@ -1,68 +1,75 @@
 -- Two paths compared step by step: what they share, which comes first, and whether one is a prefix of the other.
 use mathlib.Core.Path.{_≡_, refl, sym, ap, ap₂, _∙_}
 use mathlib.Core.Bool.{Bool, true, false, not, cond, _&&_}
-use mathlib.Core.List.{List, [], _∷_}
+use mathlib.Core.List.{List, [], _∷_, _++_}
 use Prim.Native.Nat.{ℕ, suc, _+_, _-_, _≤_, _<_, min}
 use native.Mathlib.Omega.{arith}
 use native.Mathlib.Decide.{decLt}
-use borrow.Author.Tests.{eq-eqb, ne-eqb, lt-ltb, le-ltb}
+use borrow.Author.Tests.{not-true, not-false, lt-ltb, le-ltb}
 use lib.ListN.{length, take}
 use lib.Dec.{T, eqb, leb, ltb, eqb·suc-suc, eqb·zero-suc, eqb·suc-zero, leb·zero, leb·suc-zero, leb·suc-suc}
 use mir.Facts.{eqb-yes, yes-eqb}
 use Rattle.model.specs.Lists.{range}
-use Rattle.model.specs.Path.{Step, sameStep, samePath, isPrefix, parent, key, pathRank}
+use Rattle.model.specs.Sets.{precedes}
+use Rattle.model.specs.Path.{Step, sameStep, samePath, isPrefix, parent, keys}
 use Rattle.model.proofs.Bools.{both, decide, is-true, is-false, same-test}
-use Rattle.model.proofs.Order.{precedes-cancel}
-use Rattle.model.proofs.Paths.{step-eq, step-refl}
+use Rattle.model.proofs.Order.{precedes-cancel, precedes-differ}
+use Rattle.model.proofs.Paths.{step-eq, step-refl, Keyed}
 use Rattle.model.proofs.Walks.{rest, rest-more, rest-end}
-use Rattle.path.specs.Steps.{KeyOf}
-use Rattle.path.specs.Common.{common, isBefore, Compared}
-use Rattle.path.proofs.Steps.{word-same, word-before}
+use Rattle.path.specs.Common.{common, isBeforeBy, ComparedBy}
 
 -- ---- steps at the front
 
--- two steps by their keys
-module _ (a b : Step) (p q : List Step) {k l : ℕ} (x : KeyOf a k) (y : KeyOf b l) where
-  keys-same : sameStep a b ≡ eqb k l
-  keys-same = word-same a b (x .byte) (y .byte) ∙ ap₂ eqb (sym (x .word)) (sym (y .word))
+-- the empty list is before any other
+first-list : (x u : List ℕ) → 0 < length x → precedes [] (x ++ u) ≡ true
+first-list [] u h = absurd (omega arith)
+first-list (a ∷ x) u h = refl
 
-  common-same : k ≡ l → common (a ∷ p) (b ∷ q) ≡ suc (common p q)
-  common-same e = let t : sameStep a b ≡ true = keys-same ∙ eq-eqb k l e in rw t
+-- and after none
+last-list : (x : List ℕ) → precedes x [] ≡ false
+last-list [] = refl
+last-list (a ∷ x) = refl
 
-  common-differ : (k ≡ l → ⊥) → common (a ∷ p) (b ∷ q) ≡ 0
-  common-differ d = let t : sameStep a b ≡ false = keys-same ∙ ne-eqb k l d in rw t
+-- first steps that are the same are shared
+common-same : (a b : Step) (p q : List Step) → sameStep a b ≡ true → common (a ∷ p) (b ∷ q) ≡ suc (common p q)
+common-same a b p q t = rw t
 
-  -- a common first step does not matter
-  before-same : k ≡ l → isBefore (a ∷ p) (b ∷ q) ≡ isBefore p q
-  before-same e =
-      let t : sameStep a b ≡ true = keys-same ∙ eq-eqb k l e in
-      let s : a ≡ b = step-eq a b (rw t tt) in
-      rw s (precedes-cancel (key b) (pathRank p) (pathRank q))
+-- behind first steps that differ nothing is
+common-differ : (a b : Step) (p q : List Step) → sameStep a b ≡ false → common (a ∷ p) (b ∷ q) ≡ 0
+common-differ a b p q t = rw t
 
-  before-differ : (k ≡ l → ⊥) → isBefore (a ∷ p) (b ∷ q) ≡ ltb k l
-  before-differ d =
-      word-before a b (pathRank p) (pathRank q) (x .byte) (y .byte) (λ e. d (x .word ∙ e ∙ sym (y .word)))
-      ∙ ap₂ ltb (sym (x .word)) (sym (y .word))
+-- the root is after no path
+pub before-none : (k : Step → List ℕ) (p : List Step) → isBeforeBy k p [] ≡ false
+before-none k p = last-list (keys k p)
 
-before-none : (p : List Step) → isBefore p [] ≡ false
-unfolding key
-before-none [] = refl
-before-none (a ∷ p) = refl
+-- the order of a key
+module _ (k : Step → List ℕ) (good : Keyed k) where
+  -- and before any other
+  pub before-some : (a : Step) (p : List Step) → isBeforeBy k [] (a ∷ p) ≡ true
+  before-some a p = first-list (k a) (keys k p) (good .filled a)
 
-before-some : (a : Step) (p : List Step) → isBefore [] (a ∷ p) ≡ true
-unfolding key
-before-some a p = refl
+  module _ (a b : Step) (p q : List Step) where
+    -- a common first step does not matter
+    before-same : sameStep a b ≡ true → isBeforeBy k (a ∷ p) (b ∷ q) ≡ isBeforeBy k p q
+    before-same t = let s : a ≡ b = step-eq a b (rw t tt) in rw s (precedes-cancel (k b) (keys k p) (keys k q))
+
+    -- first steps that differ decide
+    before-differ : sameStep a b ≡ false → isBeforeBy k (a ∷ p) (b ∷ q) ≡ precedes (k a) (k b)
+    before-differ t = precedes-differ (k a) (k b) (keys k p) (keys k q) (good .width a b) (λ e. other (good .injective a b e))
+      where
+        other : a ≡ b → ⊥
+        other e = let s : T (sameStep a b) = rw e (step-refl b) in rw t at s
 
 -- ---- two paths given as ranges, compared from step i on
 
-pub record Sharing (f g : ℕ → Step) (x y i : ℕ) : Type 0 where
+pub record Sharing (k : Step → List ℕ) (f g : ℕ → Step) (x y i : ℕ) : Type 0 where
   pub within-x : i ≤ x
   pub within-y : i ≤ y
   pub same : common (range f 0 x) (range g 0 y) ≡ i + common (rest f x i) (rest g y i)
-  pub order : isBefore (range f 0 x) (range g 0 y) ≡ isBefore (rest f x i) (rest g y i)
+  pub order : isBeforeBy k (range f 0 x) (range g 0 y) ≡ isBeforeBy k (rest f x i) (rest g y i)
 
-pub share-start : (f g : ℕ → Step) (x y : ℕ) → Sharing f g x y 0
-share-start f g x y =
+pub share-start : (k : Step → List ℕ) (f g : ℕ → Step) (x y : ℕ) → Sharing k f g x y 0
+share-start k f g x y =
     let ex : x - 0 ≡ x = omega arith in
     let ey : y - 0 ≡ y = omega arith in
     record {
@@ -72,58 +79,62 @@ share-start f g x y =
       order = rw (ex, ey);
     }
 
-module _ {f g : ℕ → Step} {x y i : ℕ} (inv : Sharing f g x y i) where
-  nothing-left : i ≡ x → isBefore [] (rest g y i) ≡ ltb x y
+module _ {k : Step → List ℕ} (good : Keyed k) {f g : ℕ → Step} {x y i : ℕ} (inv : Sharing k f g x y i) where
+  nothing-left : i ≡ x → isBeforeBy k [] (rest g y i) ≡ ltb x y
   nothing-left z = elim (decLt i y) [
-    | yes j ↦ let n : x < y = omega arith in ap (isBefore []) (rest-more g y i j) ∙ before-some (g i) (rest g y (i + 1)) ∙ sym (lt-ltb x y n)
-    | no j ↦ let n : y ≤ x = omega arith in ap (isBefore []) (rest-end g y i (omega arith)) ∙ sym (le-ltb x y n)
+    | yes j ↦ let n : x < y = omega arith in ap (isBeforeBy k []) (rest-more g y i j) ∙ before-some k good (g i) (rest g y (i + 1)) ∙ sym (lt-ltb x y n)
+    | no j ↦ let n : y ≤ x = omega arith in ap (isBeforeBy k []) (rest-end g y i (omega arith)) ∙ sym (le-ltb x y n)
   ]
 
   -- at the end of one of them
-  pub share-end : min x y ≤ i → Compared (range f 0 x) (range g 0 y) i (ltb x y)
+  pub share-end : min x y ≤ i → ComparedBy k (range f 0 x) (range g 0 y) i (ltb x y)
   share-end h = elim (decLt i x) [
-    | yes k ↦
+    | yes l ↦
         let j : y ≤ i = omega (arith, inv .within-y) in
         let w : i ≤ y = inv .within-y in
         let eg : rest g y i ≡ [] = rest-end g y i j in
-        let ef : rest f x i ≡ f i ∷ rest f x (i + 1) = rest-more f x i k in
+        let ef : rest f x i ≡ f i ∷ rest f x (i + 1) = rest-more f x i l in
         let n : y ≤ x = omega arith in
         record {
           shared-is = sym (inv .same ∙ rw (ef, eg) (omega arith));
-          before-is = le-ltb x y n ∙ sym (inv .order ∙ ap (isBefore (rest f x i)) eg ∙ before-none (rest f x i));
+          before-is = le-ltb x y n ∙ sym (inv .order ∙ ap (isBeforeBy k (rest f x i)) eg ∙ before-none k (rest f x i));
         }
-    | no k ↦
+    | no l ↦
         let w : i ≤ x = inv .within-x in
         let z : i ≡ x = omega arith in
         let ef : rest f x i ≡ [] = rest-end f x i (omega arith) in
         record {
           shared-is = sym (inv .same ∙ rw ef (omega arith));
-          before-is = sym (inv .order ∙ ap (λ (p : List Step). isBefore p (rest g y i)) ef ∙ nothing-left z);
+          before-is = sym (inv .order ∙ ap (λ (p : List Step). isBeforeBy k p (rest g y i)) ef ∙ nothing-left z);
         }
   ]
 
-  module _ (hx : i < x) (hy : i < y) {k l : ℕ} (kx : KeyOf (f i) k) (ky : KeyOf (g i) l) where
+  -- at steps that were found the same or not
+  module _ (hx : i < x) (hy : i < y) {r : Bool} (told : r ≡ sameStep (f i) (g i)) where
     more-x : rest f x i ≡ f i ∷ rest f x (i + 1)
     more-x = rest-more f x i hx
 
     more-y : rest g y i ≡ g i ∷ rest g y (i + 1)
     more-y = rest-more g y i hy
 
-    -- at steps that differ
-    pub share-differ : (k ≡ l → ⊥) → Compared (range f 0 x) (range g 0 y) i (ltb k l)
-    share-differ d =
+    -- steps that differ decide
+    pub share-differ : not r ≡ true → {t : Bool} → t ≡ precedes (k (f i)) (k (g i)) → ComparedBy k (range f 0 x) (range g 0 y) i t
+    share-differ d e =
+        let s : sameStep (f i) (g i) ≡ false = sym told ∙ not-true r d in
         record {
-          shared-is = sym (inv .same ∙ rw (more-x, more-y, common-differ (f i) (g i) (rest f x (i + 1)) (rest g y (i + 1)) kx ky d) (omega arith));
-          before-is = sym (inv .order ∙ ap₂ isBefore more-x more-y ∙ before-differ (f i) (g i) (rest f x (i + 1)) (rest g y (i + 1)) kx ky d);
+          shared-is = sym (inv .same ∙ rw (more-x, more-y, common-differ (f i) (g i) (rest f x (i + 1)) (rest g y (i + 1)) s) (omega arith));
+          before-is = sym (inv .order ∙ ap₂ (isBeforeBy k) more-x more-y ∙ before-differ k good (f i) (g i) (rest f x (i + 1)) (rest g y (i + 1)) s ∙ sym e);
         }
 
-    pub share-next : k ≡ l → Sharing f g x y (i + 1)
+    -- steps that are the same lead to the next
+    pub share-next : not r ≡ false → Sharing k f g x y (i + 1)
     share-next e =
+        let s : sameStep (f i) (g i) ≡ true = sym told ∙ not-false r e in
         record {
           within-x = omega arith;
           within-y = omega arith;
-          same = inv .same ∙ rw (more-x, more-y, common-same (f i) (g i) (rest f x (i + 1)) (rest g y (i + 1)) kx ky e) (omega arith);
-          order = inv .order ∙ ap₂ isBefore more-x more-y ∙ before-same (f i) (g i) (rest f x (i + 1)) (rest g y (i + 1)) kx ky e;
+          same = inv .same ∙ rw (more-x, more-y, common-same (f i) (g i) (rest f x (i + 1)) (rest g y (i + 1)) s) (omega arith);
+          order = inv .order ∙ ap₂ (isBeforeBy k) more-x more-y ∙ before-same k good (f i) (g i) (rest f x (i + 1)) (rest g y (i + 1)) s;
         }
 
 -- ---- what the shared steps say

@@ -1,25 +1,27 @@
 -- The steps of a path, walked one by one: a lent path as a range, ascending labels by the label before, and keys as numbers.
 use mathlib.Core.Path.{_≡_, refl, sym, ap, ap₂, _∙_}
-use mathlib.Core.Logic.{_⊎_, inl, inr, _≢_}
-use mathlib.Core.Bool.{Bool, true, false, not, _&&_, _||_}
+use mathlib.Core.Logic.{_≢_}
+use mathlib.Core.Bool.{Bool, true, false, not, _&&_}
 use mathlib.Core.Option.{some}
-use mathlib.Core.List.{List, [], _∷_, _++_}
+use mathlib.Core.List.{List, [], _∷_}
 use Prim.Native.Nat.{ℕ, zero, suc, _+_, _-_, _*_, _/_, _%_, _≤_, _<_}
 use native.Mathlib.Omega.{arith}
-use borrow.Author.Tests.{not-true, not-false, le-leb, lt-leb, eq-eqb, ne-eqb}
+use native.Mathlib.Decide.{decLt}
+use borrow.Author.Tests.{not-true, not-false, le-leb, lt-leb, eq-eqb, ne-eqb, lt-ltb, le-ltb}
 use lib.ListN.{length, getD, drop}
 use lib.Dec.{T, eqb, ltb}
-use mir.Facts.{eqb-no, eqb-yes, yes-eqb, ltb-yes, yes-ltb, leb-yes, or-yes}
-use Rattle.model.specs.Lists.{all, range}
+use mir.Facts.{eqb-yes, ltb-yes, leb-yes}
+use Rattle.model.specs.Lists.{all, range, isByte}
 use Rattle.model.specs.Sets.{precedes}
 use Rattle.model.specs.Label.{isLabel, dominates}
-use Rattle.model.specs.Path.{Step, sameStep, parent, lastStep, endsIn, validStep, validPath, labelsAscend, stepsOf, key}
+use Rattle.model.specs.Path.{Step, sameStep, parent, lastStep, endsIn, validStep, validPath, labelsAscend, stepsOf, key, formerKey}
 use Rattle.model.specs.Rows.{goodPath}
-use Rattle.model.proofs.Bools.{and-l, and-r, both, or-l, or-r, decide, same-test}
+use Rattle.model.proofs.Bools.{and-l, and-r, both, same-test}
 use Rattle.model.proofs.Lists.{length-range, getD-front, drop-next}
 use Rattle.model.proofs.Dominance.{dominates-upper, bottom-label}
+use Rattle.model.proofs.Paths.{Keyed, key-keyed, former-keyed}
 use Rattle.model.proofs.Walks.{rest, rest-more, rest-end}
-use Rattle.path.specs.Steps.{stepOf, lentStep, mayFollow, allFollow, keyWord, KeyOf}
+use Rattle.path.specs.Steps.{stepWith, stepOf, lentStep, mayFollow, allFollow, keyOf, wordFrom, inDigits, KeyOf}
 
 -- ---- a lent path as a range
 
@@ -148,67 +150,78 @@ module _ {g : ℕ → Step} {w : Bool} {c l i : ℕ} (inv : Following g w c l i)
 
 -- ---- keys as numbers
 
--- steps whose labels are bytes are the same if their keys are
-pub word-same : (a b : Step) → a .label < 256 → b .label < 256 → sameStep a b ≡ eqb (keyWord a) (keyWord b)
-unfolding sameStep keyWord
-word-same a b h k =
-    same-test (sameStep a b) (eqb (keyWord a) (keyWord b))
-    (λ (t : T (sameStep a b)).
-    let n : a .name ≡ b .name = eqb-yes (search (and-l, and-r)) in
-    let l : a .label ≡ b .label = eqb-yes (search (and-l, and-r)) in
-    let e : a .label + 256 * a .name ≡ b .label + 256 * b .name = omega arith in
-    yes-eqb e)
-    (λ (t : T (eqb (keyWord a) (keyWord b))).
-    let e : a .label + 256 * a .name ≡ b .label + 256 * b .name = eqb-yes t in
-    let n : a .name ≡ b .name = omega arith in
-    let l : a .label ≡ b .label = omega arith in
-    search (both, yes-eqb))
+-- digits behind the first number are digits behind the second
+digits-behind : (l : List ℕ) → T (all isByte l) → T (inDigits l)
+digits-behind [] t = tt
+digits-behind (d ∷ l) t = and-r (isByte d) (all isByte l) t
 
--- and the first of two that differ is decided by the keys
-pub word-before : (a b : Step) (u v : List ℕ) → a .label < 256 → b .label < 256 → (keyWord a ≡ keyWord b → ⊥)
-    → precedes (key a ++ u) (key b ++ v) ≡ ltb (keyWord a) (keyWord b)
-unfolding key keyWord
-word-before a b u v h k d =
-    same-test (precedes (key a ++ u) (key b ++ v)) (ltb (keyWord a) (keyWord b))
-    (λ (t : T (precedes (key a ++ u) (key b ++ v))). yes-ltb (forth (or-yes (ltb (a .name) (b .name)) (eqb (a .name) (b .name) && behind) t)))
-    (λ (t : T (ltb (keyWord a) (keyWord b))). back (ltb-yes t))
+-- of numbers with as many digits behind them, the lesser stays the lesser
+word-less : (v w : ℕ) (x y : List ℕ) → length x ≡ length y → T (all isByte x) → v < w → wordFrom v x < wordFrom w y
+unfolding isByte
+word-less v w [] [] l t h = h
+word-less v w [] (e ∷ y) l t h = absurd (omega arith)
+word-less v w (d ∷ x) [] l t h = absurd (omega arith)
+word-less v w (d ∷ x) (e ∷ y) l t h =
+    let b : d < 256 = ltb-yes (and-l (isByte d) (all isByte x) t) in
+    word-less (256 * v + d) (256 * w + e) x y (omega arith) (and-r (isByte d) (all isByte x) t) (omega arith)
+
+-- so lists of one length are ordered as the numbers of their digits
+lists-before : (w : ℕ) (x y : List ℕ) → length x ≡ length y → T (inDigits x) → T (inDigits y) → precedes x y ≡ ltb (wordFrom w x) (wordFrom w y)
+lists-before w [] [] l s t = sym (le-ltb w w (omega arith))
+lists-before w [] (e ∷ y) l s t = absurd (omega arith)
+lists-before w (d ∷ x) [] l s t = absurd (omega arith)
+lists-before w (d ∷ x) (e ∷ y) l s t = go (lists-before (256 * w + d) x y m (digits-behind x s) (digits-behind y t))
   where
-    -- the order where the names are the same
-    behind : Bool
-    behind = ltb (a .label) (b .label) || (eqb (a .label) (b .label) && precedes u v)
+    m : length x ≡ length y
+    m = omega arith
 
-    by-label : a .name ≡ b .name → T (ltb (a .label) (b .label)) ⊎ T (eqb (a .label) (b .label) && precedes u v)
-        → a .label + 256 * a .name < b .label + 256 * b .name
-    by-label n (inl t) = let l : a .label < b .label = ltb-yes t in omega arith
-    by-label n (inr t) =
-        let l : a .label ≡ b .label = eqb-yes (and-l (eqb (a .label) (b .label)) (precedes u v) t) in
-        let e : a .label + 256 * a .name ≡ b .label + 256 * b .name = omega arith in
-        absurd (d e)
+    go : precedes x y ≡ ltb (wordFrom (256 * w + d) x) (wordFrom (256 * w + d) y)
+        → precedes (d ∷ x) (e ∷ y) ≡ ltb (wordFrom (256 * w + d) x) (wordFrom (256 * w + e) y)
+    go f = elim (decLt d e) [
+      | yes h ↦
+          let k : wordFrom (256 * w + d) x < wordFrom (256 * w + e) y = word-less (256 * w + d) (256 * w + e) x y m s (omega arith) in
+          rw (lt-ltb d e h) (sym (lt-ltb _ _ k))
+      | no h ↦ elim (decLt e d) [
+        | yes i ↦
+            let k : wordFrom (256 * w + e) y < wordFrom (256 * w + d) x = word-less (256 * w + e) (256 * w + d) y x (sym m) t (omega arith) in
+            let n : wordFrom (256 * w + e) y ≤ wordFrom (256 * w + d) x = omega arith in
+            let o : e ≤ d = omega arith in
+            let q : d ≢ e = λ z. omega arith in
+            rw (le-ltb d e o, ne-eqb d e q) (sym (le-ltb _ _ n))
+        | no i ↦
+            let o : e ≤ d = omega arith in
+            let q : d ≡ e = omega arith in
+            rw (le-ltb d e o, eq-eqb d e q) (f ∙ ap (λ (z : ℕ). ltb (wordFrom (256 * w + d) x) (wordFrom (256 * w + z) y)) q)
+      ]
+    ]
 
-    forth : T (ltb (a .name) (b .name)) ⊎ T (eqb (a .name) (b .name) && behind) → a .label + 256 * a .name < b .label + 256 * b .name
-    forth (inl t) = let n : a .name < b .name = ltb-yes t in omega arith
-    forth (inr t) =
-        by-label (eqb-yes (and-l (eqb (a .name) (b .name)) behind t))
-        (or-yes (ltb (a .label) (b .label)) (eqb (a .label) (b .label) && precedes u v) (and-r (eqb (a .name) (b .name)) behind t))
+-- so two steps are ordered as their keys
+pub word-before : {k : Step → List ℕ} → Keyed k → (a b : Step) {v w : ℕ} → KeyOf k a v → KeyOf k b w → precedes (k a) (k b) ≡ ltb v w
+word-before {k} good a b x y = lists-before 0 (k a) (k b) (good .width a b) (x .digits) (y .digits) ∙ ap₂ ltb (sym (x .word)) (sym (y .word))
 
-    back : a .label + 256 * a .name < b .label + 256 * b .name → T (ltb (a .name) (b .name) || (eqb (a .name) (b .name) && behind))
-    back e =
-        decide (eqb (a .name) (b .name))
-        (λ (t : T (eqb (a .name) (b .name))).
-        let n : a .name ≡ b .name = eqb-yes t in
-        let l : a .label < b .label = omega arith in
-        or-r (ltb (a .name) (b .name)) (eqb (a .name) (b .name) && behind)
-        (both (eqb (a .name) (b .name)) behind t (or-l (ltb (a .label) (b .label)) (eqb (a .label) (b .label) && precedes u v) (yes-ltb l))))
-        (λ (t : T (not (eqb (a .name) (b .name)))).
-        let n : a .name ≢ b .name = eqb-no t in
-        let l : a .name < b .name = omega arith in
-        or-l (ltb (a .name) (b .name)) (eqb (a .name) (b .name) && behind) (yes-ltb l))
+-- the keys of both orders are keys
+pub keyed : (former : Bool) → Keyed (keyOf former)
+keyed true = former-keyed
+keyed false = key-keyed
 
--- a key made of the bytes
-pub key-word : (lo hi l : ℕ) {a b c : ℕ} → (a ≡ l) × (a < 256) → (b ≡ lo) × (b < 256) → (c ≡ hi) × (c < 256)
-    → KeyOf (stepOf lo hi l) (a + 256 * b + 65536 * c)
-unfolding keyWord
-key-word lo hi l x y z = record { word = omega arith; byte = omega arith }
+-- the key of a step whose name and label were read, in the order that is asked for
+module _ {former : Bool} (a : Step) {n l w : ℕ} (name : n ≡ a .name) (label : l ≡ a .label) where
+  pub former-key-of : former ≡ true → KeyOf formerKey (stepWith n l) w → KeyOf (keyOf former) a w
+  former-key-of e x = rw (e, ← name, ← label) x
+
+  pub path-key-of : former ≡ false → KeyOf key (stepWith n l) w → KeyOf (keyOf former) a w
+  path-key-of e x = rw (e, ← name, ← label) x
+
+-- two steps whose names were read: they differ where the names do
+module _ (a b : Step) {m n : ℕ} (e : m ≡ a .name) (f : n ≡ b .name) where
+  pub names-differ : m ≢ n → false ≡ sameStep a b
+  unfolding sameStep
+  names-differ d = let q : eqb (a .name) (b .name) ≡ false = rw (← e, ← f) (ne-eqb m n d) in rw q
+
+  -- else the labels decide
+  pub labels-decide : m ≡ n → {k l : ℕ} → k ≡ a .label → l ≡ b .label → eqb k l ≡ sameStep a b
+  unfolding sameStep
+  labels-decide s g h = let q : eqb (a .name) (b .name) ≡ true = rw (← e, ← f) (eq-eqb m n s) in ap₂ eqb g h ∙ rw q
 
 -- ---- a lent path
 

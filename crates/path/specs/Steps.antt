@@ -1,15 +1,21 @@
--- The steps of a lent path, step by step.
+-- The steps of a lent path, step by step, and their keys as numbers.
 use mathlib.Core.Path.{_≡_}
-use mathlib.Core.Bool.{Bool, true, _&&_}
+use mathlib.Core.Bool.{Bool, true, false, _&&_}
 use mathlib.Core.List.{List, [], _∷_}
-use Prim.Native.Nat.{ℕ, _+_, _*_, _/_, _%_, _<_}
+use Prim.Native.Nat.{ℕ, _+_, _*_, _/_, _%_}
 use lib.ListN.{getD, set}
+use lib.Dec.{T}
+use Rattle.model.specs.Lists.{all, isByte}
 use Rattle.model.specs.Label.{dominates}
-use Rattle.model.specs.Path.{Step, validStep}
+use Rattle.model.specs.Path.{Step, validStep, key, formerKey}
+
+-- the step with a name and a label
+abbrev pub stepWith : ℕ → ℕ → Step
+stepWith name label = record { name = name; label = label }
 
 -- the step of three bytes: the name, lowest byte first, and the label
 abbrev pub stepOf : ℕ → ℕ → ℕ → Step
-stepOf lo hi l = record { name = lo + 256 * hi; label = l }
+stepOf lo hi l = stepWith (lo + 256 * hi) l
 
 -- step i of a lent path
 abbrev pub lentStep : List ℕ → ℕ → Step
@@ -24,14 +30,27 @@ abbrev pub allFollow : ℕ → List Step → Bool
 allFollow l [] = true
 allFollow l (a ∷ p) = mayFollow l a && allFollow (a .label) p
 
--- a step's place in path order, as one number
-unfoldable pub keyWord : Step → ℕ
-keyWord a = a .label + 256 * a .name
+-- ---- keys as numbers
 
--- w is the key of step a, whose label is a byte
-pub record KeyOf (a : Step) (w : ℕ) : Type 0 where
-  pub word : w ≡ keyWord a
-  pub byte : a .label < 256
+-- the key of an order: that of before 7/14, or that of path order
+abbrev pub keyOf : Bool → Step → List ℕ
+keyOf true = formerKey
+keyOf false = key
+
+-- numbers read as digits of base 256 behind the number w, the highest first
+abbrev pub wordFrom : ℕ → List ℕ → ℕ
+wordFrom w [] = w
+wordFrom w (d ∷ l) = wordFrom (256 * w + d) l
+
+-- the numbers behind the first are digits
+abbrev pub inDigits : List ℕ → Bool
+inDigits [] = true
+inDigits (d ∷ l) = all isByte l
+
+-- w is the key k of step a, as one number
+pub record KeyOf (k : Step → List ℕ) (a : Step) (w : ℕ) : Type 0 where
+  pub word : w ≡ wordFrom 0 (k a)
+  pub digits : T (inDigits (k a))
 
 -- a buffer with a step written behind n others
 abbrev pub putStep : List ℕ → ℕ → ℕ → ℕ → List ℕ

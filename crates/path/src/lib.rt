@@ -1,17 +1,35 @@
-// Paths that a caller lends: three bytes a step, the name lowest byte first, then the label.
+// Paths that a caller lends, three bytes a step, the name lowest byte first, then the label; and the keys by which steps are ordered.
 ghost use mathlib.Core.Path.{_≡_};
-ghost use Prim.Native.Nat.{_+_, _*_, _≤_, _<_};
+ghost use Prim.Native.Nat.{_+_, _-_, _*_, _≤_, _<_};
 ghost use lib.ListN.{length};
 ghost use lib.Dec.{T};
-ghost use Rattle.model.specs.Path.{endsIn, stepsOf};
+ghost use Rattle.model.specs.Path.{endsIn, stepsOf, key, formerKey};
 ghost use Rattle.model.specs.Rows.{goodPath};
-ghost use Rattle.path.specs.Steps.{stepOf, lentStep, mayFollow, allFollow, KeyOf, putStep};
+ghost use Rattle.path.specs.Steps.{stepWith, stepOf, lentStep, mayFollow, allFollow, KeyOf, putStep};
 
-// The key of a step in path order: the name first, then the label. No other code knows the order.
-pub fn step_key(lo: u8, hi: u8, label: u8) -> u32
-    ensures { λ r. ⌜ KeyOf (stepOf lo hi label) r ⌝ }
+// x less y, or 0 where y is greater.
+fn less(x: u32, y: u32) -> u32
+    ensures { λ r. ⌜ r ≡ x - y ⌝ }
 {
-    octets::wide(label) + 256 * octets::wide(lo) + 65536 * octets::wide(hi)
+    if y < x { x - y } else { 0 }
+}
+
+// The key of a step in path order: the name, then the level from high to low, then the label. No other code knows the order.
+pub fn step_key(name: u32, label: u8) -> u32
+    requires { ⌜ name < 65536 ⌝ }
+    ensures { λ r. ⌜ KeyOf key (stepWith name label) r ⌝ }
+{
+    let l = octets::wide(label);
+    let down = less(3, l / 8);
+    l + 256 * down + 65536 * name
+}
+
+// The key of a step in the order of before 7/14: the name, then the label.
+pub fn former_key(name: u32, label: u8) -> u32
+    requires { ⌜ name < 65536 ⌝ }
+    ensures { λ r. ⌜ KeyOf formerKey (stepWith name label) r ⌝ }
+{
+    octets::wide(label) + 256 * name
 }
 
 // Whether a step is valid and may follow one with the label before.
@@ -27,16 +45,16 @@ pub fn may_follow(before: u8, lo: u8, hi: u8, label: u8) -> bool
     label::dominates(label, before)
 }
 
-// The key of step i of a lent path.
-pub fn lent_key(path: &[u8], i: usize) -> u32
+// The name of step i of a lent path.
+pub fn lent_name(path: &[u8], i: usize) -> u32
     requires { ⌜ 3 * i + 2 < length (now path) ⌝ }
-    ensures { λ r. ⌜ KeyOf (lentStep (now (path .entry)) i) r ⌝ }
+    ensures { λ r. ⌜ (r ≡ lentStep (now (path .entry)) i .name) × (r < 65536) ⌝ }
 {
-    step_key(path[3 * i], path[3 * i + 1], path[3 * i + 2])
+    octets::wide(path[3 * i]) + 256 * octets::wide(path[3 * i + 1])
 }
 
 // The label of step i of a lent path.
-fn lent_label(path: &[u8], i: usize) -> u8
+pub fn lent_label(path: &[u8], i: usize) -> u8
     requires { ⌜ 3 * i + 2 < length (now path) ⌝ }
     ensures { λ r. ⌜ r ≡ lentStep (now (path .entry)) i .label ⌝ }
 {

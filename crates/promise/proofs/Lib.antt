@@ -3,3 +3,4 @@ pub mod Doing
 pub mod Grading
 pub mod Intaking
 pub mod Runs
+pub mod Migrating

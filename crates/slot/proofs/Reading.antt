@@ -9,14 +9,14 @@ use lib.ListN.{length, drop, length-take, length-drop}
 use lib.Dec.{T}
 use mir.Facts.{leb-yes}
 use Rattle.model.specs.Lists.{range, between}
-use Rattle.model.specs.Path.{endsIn, validPath, stepsOf}
+use Rattle.model.specs.Path.{Step, endsIn, validPath, stepsOf}
 use Rattle.model.specs.Value.{storable}
 use Rattle.model.specs.Slot.{valueAt, slotSize, depth, stepAt, valueLength, readPath, readContent}
 use Rattle.model.proofs.Bools.{and-l, and-r}
 use Rattle.model.proofs.Lists.{length-range}
 use Rattle.model.proofs.Slots.{allowed-length}
 use Rattle.path.specs.Steps.{lentStep}
-use Rattle.path.specs.Common.{Compared}
+use Rattle.path.specs.Common.{ComparedBy}
 use Rattle.path.proofs.Steps.{lent-range}
 
 -- ---- the path
@@ -54,12 +54,12 @@ module _ (n : ℕ) (b : List ℕ) {r : Bool} (f : r ≡ (validPath (readPath b) 
 
 -- ---- comparisons
 
-pub compared-slots : (a b : List ℕ) {x y i : ℕ} {t : Bool} → (x ≡ depth a) × (x < 256) → (y ≡ depth b) × (y < 256)
-    → Compared (range (stepAt a) 0 x) (range (stepAt b) 0 y) i t → Compared (readPath a) (readPath b) i t
+pub compared-slots : (k : Step → List ℕ) (a b : List ℕ) {x y i : ℕ} {t : Bool} → (x ≡ depth a) × (x < 256) → (y ≡ depth b) × (y < 256)
+    → ComparedBy k (range (stepAt a) 0 x) (range (stepAt b) 0 y) i t → ComparedBy k (readPath a) (readPath b) i t
 unfolding readPath
-compared-slots a b e f c = rw (e .0, f .0) at c
+compared-slots k a b e f c = rw (e .0, f .0) at c
 
-pub compared-path : (a p : List ℕ) {x y i : ℕ} {t : Bool} → (x ≡ depth a) × (x < 256) → y ≡ length p / 3
-    → Compared (range (stepAt a) 0 x) (range (lentStep p) 0 y) i t → Compared (readPath a) (stepsOf p) i t
+pub compared-path : (k : Step → List ℕ) (a p : List ℕ) {x y i : ℕ} {t : Bool} → (x ≡ depth a) × (x < 256) → y ≡ length p / 3
+    → ComparedBy k (range (stepAt a) 0 x) (range (lentStep p) 0 y) i t → ComparedBy k (readPath a) (stepsOf p) i t
 unfolding readPath
-compared-path a p e f c = rw (lent-range p) (rw (e .0, f) at c)
+compared-path k a p e f c = rw (lent-range p) (rw (e .0, f) at c)

@@ -8,29 +8,43 @@ use borrow.Author.Tests.{not-true, not-false, lt-ltb, le-ltb}
 use lib.ListN.{length, drop, getD}
 use lib.Seq.{drop-at}
 use lib.Dec.{T, eqb, ltb}
-use mir.Facts.{ltb-yes, ltb-no}
+use mir.Facts.{ltb-yes, ltb-no, eqb-yes, yes-eqb}
 use Rattle.model.specs.Lists.{all, range, allZero, between}
 use Rattle.model.specs.Path.{Step, sameStep}
 use Rattle.model.specs.Slot.{namesAt, labelsAt, kindAt, valueAt, spareAt, slotSize, depth, stepAt, valueLength, readPath}
-use Rattle.model.proofs.Bools.{crossed, decide}
+use Rattle.model.proofs.Bools.{and-l, and-r, both, crossed, decide, same-test}
 use Rattle.model.proofs.Lists.{length-between, all-parts, between-join, between-none, between-cons}
 use Rattle.model.proofs.Walks.{rest, rest-more, rest-end}
 use Rattle.octets.proofs.Joining.{join-zero}
-use Rattle.path.specs.Steps.{mayFollow, allFollow, keyWord, KeyOf}
-use Rattle.path.proofs.Steps.{word-same}
+use Rattle.path.specs.Steps.{mayFollow, allFollow}
 use Rattle.slot.specs.Slot.{Readable}
 use Rattle.slot_valid.specs.Valid.{noStep, mayStand, stepsZero, restZero}
 
 -- ---- one place
 
+-- a sum is 0 where both numbers are
+sum-zero : (x y : ℕ) → eqb (x + y) 0 ≡ (eqb x 0 && eqb y 0)
+sum-zero x y =
+    same-test (eqb (x + y) 0) (eqb x 0 && eqb y 0)
+    (λ (t : T (eqb (x + y) 0)).
+    let e : x + y ≡ 0 = eqb-yes t in
+    let f : x ≡ 0 = omega arith in
+    let g : y ≡ 0 = omega arith in
+    search (both, yes-eqb))
+    (λ (t : T (eqb x 0 && eqb y 0)).
+    let f : x ≡ 0 = eqb-yes (search (and-l, and-r)) in
+    let g : y ≡ 0 = eqb-yes (search (and-l, and-r)) in
+    let e : x + y ≡ 0 = omega arith in
+    yes-eqb e)
+
 module _ (d l i : ℕ) (a : Step) where
   pub used-place : i < d → {r : Bool} → r ≡ mayFollow l a → r ≡ mayStand d l i a
   used-place h e = e ∙ rw (lt-ltb i d h)
 
-  -- the key of no step is 0, and of no other
-  pub unused-place : d ≤ i → {k : ℕ} → KeyOf a k → eqb k 0 ≡ mayStand d l i a
-  unfolding keyWord
-  unused-place h k = ap (λ (n : ℕ). eqb n 0) (k .word) ∙ sym (rw (le-ltb i d h) (word-same a (record { name = 0; label = 0 }) (k .byte) (omega arith)))
+  -- name and label of no step are 0
+  pub unused-place : d ≤ i → {m k n : ℕ} → (m ≡ a .name) × (m < 65536) → k ≡ a .label → (n ≡ k) × (n < 256) → eqb (m + n) 0 ≡ mayStand d l i a
+  unfolding sameStep
+  unused-place h e f g = ap₂ (λ (x y : ℕ). eqb (x + y) 0) (e .0) (g .0 ∙ f) ∙ sum-zero (a .name) (a .label) ∙ rw (le-ltb i d h)
 
 -- ---- the six places
 

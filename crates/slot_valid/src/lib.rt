@@ -26,7 +26,7 @@ fn step_good(before: u8, slot: &[u8], i: usize, d: usize) -> bool
     if i < d {
         return step_follows(before, slot, i);
     }
-    slot::slot_key(slot, i) == 0
+    slot::step_name(slot, i) + octets::wide(slot::step_label(slot, i)) == 0
 }
 
 // Whether the steps of a slot's path are valid, their labels ascend, and the places behind them are 0. One loop over the six places.

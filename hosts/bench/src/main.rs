@@ -70,6 +70,7 @@ fn measure_all(plan: &Plan) -> io::Result<Report> {
         calls: ELEMENTS.iter().flat_map(|elements| rows::calls(seed, *elements, rounds)).collect(),
         group_inserts: rows::group_inserts(seed, rounds),
         intakes: rows::intakes(seed, rounds),
+        migrations: rows::migrations(seed, rounds),
         refusals: [rows::refusals(seed, rounds), rows::intake_refusals(seed, rounds)].into_iter().flatten().collect(),
         runner: rows::runner(seed, lines, runs, &plan.root, &scratch)?,
         growth: rows::growth(seed, &GROWTH, rounds),

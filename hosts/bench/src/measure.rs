@@ -28,10 +28,12 @@ pub struct Case {
     pub store: Vec<u8>,
 }
 
-/// Cases of the same kind, carried out in turn, so that no processor learns one by heart; and what each answers.
+/// Cases of the same kind, carried out in turn, so that no processor learns one by heart; and what each answers. After a
+/// call the subject's partition is laid back, and its time counts; or the whole store is, and its time is taken off.
 pub struct Work {
     pub cases: Vec<Case>,
     pub number: u32,
+    pub whole: bool,
 }
 
 /// A case with its own store, which stays warm.
@@ -42,19 +44,24 @@ struct Lent<'a> {
 }
 
 impl Lent<'_> {
-    /// Lends a copy of the case's store.
-    fn new(case: &Case) -> Lent<'_> {
+    /// Lends a copy of the case's store, of which all or the subject's partition is laid back.
+    fn new(case: &Case, whole: bool) -> Lent<'_> {
         let start = PARTITION * case.call.subject as usize;
         let own = if start + PARTITION <= case.store.len() { start..start + PARTITION } else { 0..0 };
-        Lent { case, store: case.store.clone(), own }
+        Lent { case, store: case.store.clone(), own: if whole { 0..case.store.len() } else { own } }
     }
 
-    /// Makes the call and lays back the subject's partition.
+    /// Makes the call and lays the store back.
     fn carry_out(&mut self, side: Side, output: &mut [u8]) -> u32 {
         let output = &mut output[..self.case.call.output];
         let answer = side(black_box(&self.case.call), black_box(&mut self.store), black_box(output));
-        self.store[self.own.clone()].copy_from_slice(&self.case.store[self.own.clone()]);
+        self.lay_back();
         answer.number
+    }
+
+    /// Lays back what a call may have written.
+    fn lay_back(&mut self) {
+        self.store[self.own.clone()].copy_from_slice(&self.case.store[self.own.clone()]);
     }
 }
 
@@ -63,16 +70,26 @@ struct Course<'a> {
     lent: Vec<Lent<'a>>,
     output: Vec<u8>,
     times: usize,
+    whole: bool,
     product: Vec<f64>,
     reference: Vec<f64>,
+    laid_back: Vec<f64>,
 }
 
 impl Course<'_> {
     /// Prepares a work; each side must answer the expected number.
     fn new(work: &Work) -> Course<'_> {
-        let lent: Vec<Lent> = work.cases.iter().map(Lent::new).collect();
+        let lent: Vec<Lent> = work.cases.iter().map(|case| Lent::new(case, work.whole)).collect();
         let output = vec![0; work.cases.iter().map(|case| case.call.output).max().unwrap_or(0)];
-        let mut course = Course { lent, output, times: 1, product: Vec::new(), reference: Vec::new() };
+        let mut course = Course {
+            lent,
+            output,
+            times: 1,
+            whole: work.whole,
+            product: Vec::new(),
+            reference: Vec::new(),
+            laid_back: Vec::new(),
+        };
         for side in [product, reference] {
             for one in &mut course.lent {
                 assert_eq!(one.carry_out(side, &mut course.output), work.number, "{:?}", one.case.call);
@@ -85,10 +102,15 @@ impl Course<'_> {
 
     /// Carries the cases out once to warm the buffers, and then in turn as often as a batch needs: nanoseconds a call.
     fn batch(&mut self, side: Side) -> f64 {
-        self.turn(side);
+        self.timed(|course| course.turn(side))
+    }
+
+    /// Does something with all cases once to warm the buffers, and then as often as a batch needs: nanoseconds a case.
+    fn timed(&mut self, turn: impl Fn(&mut Self)) -> f64 {
+        turn(self);
         let start = Instant::now();
         for _ in 0..self.times {
-            self.turn(side);
+            turn(self);
         }
         start.elapsed().as_nanos() as f64 / (self.times * self.lent.len()) as f64
     }
@@ -100,12 +122,27 @@ impl Course<'_> {
         }
     }
 
-    /// A batch of each side, the product's first or last.
+    /// A batch of each side, the product's first or last, and one without calls where the store is laid back whole.
     fn round(&mut self, product_first: bool) {
         for is_product in [product_first, !product_first] {
             let time = self.batch(if is_product { product } else { reference });
             if is_product { self.product.push(time) } else { self.reference.push(time) }
         }
+        if self.whole {
+            let time = self.timed(|course| {
+                course.lent.iter_mut().for_each(|one| {
+                    black_box(&mut one.store);
+                    one.lay_back();
+                })
+            });
+            self.laid_back.push(time);
+        }
+    }
+
+    /// The median of each side, without the time in which the store is laid back whole.
+    fn medians(self) -> Times {
+        let laid_back = if self.whole { median(self.laid_back) } else { 0.0 };
+        Times { product: median(self.product) - laid_back, reference: median(self.reference) - laid_back }
     }
 }
 
@@ -115,8 +152,7 @@ pub fn measure(works: &[Work], rounds: usize) -> Vec<Times> {
     for round in 0..rounds {
         courses.iter_mut().for_each(|course| course.round(round % 2 == 0));
     }
-    let times = |course: Course| Times { product: median(course.product), reference: median(course.reference) };
-    courses.into_iter().map(times).collect()
+    courses.into_iter().map(Course::medians).collect()
 }
 
 /// The middle one of these times.

@@ -1,6 +1,6 @@
 //! The report: the table in Markdown, and where it stands in a document.
 use crate::measure::Times;
-use crate::rows::{Growth, HIGH_BAR, Row};
+use crate::rows::{Growth, HIGH_BAR, Migrated, Row, TEST_BAR};
 use std::fmt::Write;
 use std::fs;
 use std::io;
@@ -23,7 +23,17 @@ and finds the subject's partition empty; its elements count those that it makes.
 siblings in random order. An insert that makes groups has a path of the subject's label alone whose first step is new;
 its elements count all that it makes. The well-formedness test is timed as a call that is refused right after it, for its
 path. The runner's time is a whole run of the program, from a file into a file. No text holds a character that XML
-escapes.
+escapes. After a migration, and after the tests that it is held to, the whole store is laid back; the time of that is
+measured too and taken off. The stores that are migrated are full, but for the empty one: with versions of one name of
+each label that a partition's dominates, so that four blocks change places where it has level 3; and with paths that have
+one name five times and differ in the levels of these steps, which come the other way round.
+";
+/// The head of the table of migrations.
+const MIGRATIONS: &str = "The migration in terms of the product's own test of all partitions, on the store that the migration leaves, for which
+the bar is 2.00:
+
+| Store | Elements | Migration | Test of all partitions | Ratio | Bar |
+|---|--:|--:|--:|--:|--:|
 ";
 /// The head of the table of growth.
 const GROWTH: &str = "As the store grows: a view of all by 31, its cost for each line (each visible element), and the
@@ -44,6 +54,7 @@ pub struct Report {
     pub calls: Vec<Row>,
     pub group_inserts: Vec<Row>,
     pub intakes: Vec<Row>,
+    pub migrations: Vec<Migrated>,
     pub refusals: Vec<Row>,
     pub runner: Row,
     pub growth: Vec<Growth>,
@@ -53,12 +64,23 @@ impl Report {
     /// All rows that have a bar.
     fn rows(&self) -> impl Iterator<Item = &Row> {
         let calls = self.calls.iter().chain(&self.group_inserts).chain(&self.intakes);
+        let calls = calls.chain(self.migrations.iter().map(|migrated| &migrated.migration));
         calls.chain(&self.refusals).chain(std::iter::once(&self.runner))
+    }
+
+    /// Each migration in terms of the product's own test of all partitions.
+    fn against_tests(&self) -> impl Iterator<Item = Row> {
+        self.migrations.iter().map(|Migrated { migration, test }| Row {
+            name: migration.name.clone(),
+            elements: migration.elements,
+            times: Times { product: migration.times.product, reference: test.product },
+            bar: TEST_BAR,
+        })
     }
 
     /// The report as Markdown.
     pub fn markdown(&self) -> String {
-        let parts = [self.head(), self.verdict(), self.table(), self.growth_table()];
+        let parts = [self.head(), self.verdict(), self.table(), self.migration_table(), self.growth_table()];
         parts.join("\n")
     }
 
@@ -80,11 +102,13 @@ impl Report {
         let above: Vec<&Row> = self.rows().filter(|row| row.is_above()).collect();
         let grown = self.growth.iter().flat_map(|growth| [growth.view, growth.test]);
         let mut text = format!(
-            "The bar is 1.00 for View, as lines and as XML, the even grade, XML intake, inserts that make groups and the\n\
-             well-formedness test, and 1.20 for the others.\n\
-             Above it are {} of the {} rows of the first table and {} of the {} ratios of the second.{}\n",
+            "The bar is 1.00 for View, as lines and as XML, the even grade, XML intake, inserts that make groups, the migration\n\
+             and the well-formedness test, and 1.20 for the others.\n\
+             Above it are {} of the {} rows of the first table, {} of the {} of the second and {} of the {} ratios of the third.{}\n",
             above.len(),
             self.rows().count(),
+            self.against_tests().filter(Row::is_above).count(),
+            self.migrations.len(),
             grown.filter(|times| is_above(*times, HIGH_BAR)).count(),
             2 * self.growth.len(),
             if above.is_empty() { "" } else { " Of the first:\n" },
@@ -106,6 +130,11 @@ impl Report {
     fn table(&self) -> String {
         let head = "| Call | Elements | Product | Rust program | Ratio | Bar |\n|---|--:|--:|--:|--:|--:|\n";
         head.to_string() + &self.rows().map(line).collect::<String>()
+    }
+
+    /// The table of migrations against the test of all partitions.
+    fn migration_table(&self) -> String {
+        MIGRATIONS.to_string() + &self.against_tests().map(|row| line(&row)).collect::<String>()
     }
 
     /// The table of the cost per visible element.

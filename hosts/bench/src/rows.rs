@@ -15,8 +15,10 @@ use std::path::Path;
 use std::process::Command;
 use std::time::Instant;
 
-/// The bar for the views, the even grade, XML intake and the well-formedness test.
+/// The bar for the views, the even grade, XML intake, the migration and the well-formedness test.
 pub const HIGH_BAR: f64 = 1.0;
+/// The bar for the migration in terms of the test of all partitions.
+pub const TEST_BAR: f64 = 2.0;
 /// The bar for every other row.
 const BAR: f64 = 1.2;
 /// The lowest and the highest label.
@@ -42,6 +44,12 @@ pub struct Row {
     pub elements: usize,
     pub times: Times,
     pub bar: f64,
+}
+
+/// A migration, and the test of all partitions on the store that it leaves.
+pub struct Migrated {
+    pub migration: Row,
+    pub test: Times,
 }
 
 /// How a view and the well-formedness test grow with the store, for the highest label.
@@ -80,7 +88,7 @@ fn random_of(seed: u64, elements: usize, which: u64) -> Random {
 
 /// One work of all these, store by store.
 fn gather(cases: impl Iterator<Item = (Call, Vec<u8>)>, number: u32) -> Work {
-    Work { cases: cases.map(|(call, store)| Case { call, store }).collect(), number }
+    Work { cases: cases.map(|(call, store)| Case { call, store }).collect(), number, whole: false }
 }
 
 /// Each call by the lowest and the highest label on stores with this many elements.
@@ -204,6 +212,43 @@ pub fn intake_refusals(seed: u64, rounds: usize) -> Vec<Row> {
         })
     });
     measured(rows.collect(), rounds)
+}
+
+/// A store that is migrated: its words, its elements and how it is made.
+type Before = (&'static str, usize, fn(&mut Random) -> Vec<u8>);
+
+/// The stores that are migrated.
+const BEFORE: [Before; 4] = [
+    ("versions of one name at four levels", 1024, stores::versions),
+    ("all in the opposite order", 1024, stores::opposite),
+    ("nothing to move", 1024, |random| stores::store(random, 1024, 31)),
+    ("empty", 0, |_| vec![0; STORE]),
+];
+
+/// The migrations, each with the test of all partitions on what it leaves; a store is laid back whole after each.
+pub fn migrations(seed: u64, rounds: usize) -> Vec<Migrated> {
+    let works: Vec<Work> = BEFORE.into_iter().flat_map(|before| migration_works(seed, before)).collect();
+    let times = measure(&works, rounds);
+    let pairs = times.as_chunks::<2>().0.iter().zip(BEFORE);
+    let migrated = |(times, (name, elements, _)): (&[Times; 2], Before)| {
+        let migration = Row { name: format!("Migration, {name}"), elements, times: times[0], bar: HIGH_BAR };
+        Migrated { migration, test: times[1] }
+    };
+    pairs.map(migrated).collect()
+}
+
+/// The migration of a kind of store, and a call by the highest label on what it leaves that is refused right after the test.
+fn migration_works(seed: u64, (name, elements, before): Before) -> [Work; 2] {
+    let stores: Vec<Vec<u8>> = (0..STORES).map(|which| before(&mut random_of(seed, elements, which))).collect();
+    let after = |store: &Vec<u8>| {
+        let mut after = store.clone();
+        assert_eq!(reference::migrate(&mut after).mask, 0, "{name}");
+        after
+    };
+    let migration = Call { output: 0, ..call(Name::Migrate, 0, Vec::new()) };
+    let tests = gather(stores.iter().map(|store| test_case(&after(store), 31)), 4);
+    let migrations = gather(stores.iter().map(|store| (migration.clone(), store.clone())), 0);
+    [migrations, tests].map(|work| Work { whole: true, ..work })
 }
 
 /// How many elements an XML intake finds in the store.

@@ -1,10 +1,10 @@
 //! The stores and the script that are measured.
 use reference::STORE;
 use reference::label::{LABELS, dominates};
-use reference::partition::partition;
+use reference::partition::{HEAD, PARTITION, SLOT, partition, slot_of};
 use reference::path::{DEPTH, Path, Step};
 use reference::random::Random;
-use reference::value::Value;
+use reference::value::{TEXT, Value};
 
 /// A store with this many elements, spread evenly over the labels; a single one has the given label.
 pub fn store(random: &mut Random, elements: usize, single: u8) -> Vec<u8> {
@@ -24,6 +24,67 @@ fn fill(random: &mut Random, store: &mut [u8], label: u8, count: usize) {
         let (kind, value) = value(random);
         reference::insert(store, label.into(), &path.bytes(), kind, &value);
     }
+}
+
+/// The greatest number of elements of a label.
+const FULL: usize = 32;
+
+/// Lays a full partition of texts at these paths, in the order of before document 02's seventh request, into a store.
+fn put_before(store: &mut [u8], label: u8, mut paths: Vec<Path>) {
+    paths.sort_by(Path::old_cmp);
+    paths.truncate(FULL);
+    let part = &mut store[PARTITION * usize::from(label)..][..PARTITION];
+    part[0] = FULL as u8;
+    for (slot, path) in part[HEAD..].as_chunks_mut::<SLOT>().0.iter_mut().zip(paths) {
+        *slot = slot_of(&path, TEXT as u8, b"SLEEVE");
+    }
+    assert!(partition(store, label).was_well_formed() && partition(store, label).count() == FULL);
+}
+
+/// A full store of before: in each partition there are versions of one name, of each label below its own, and about as many
+/// elements below each. So those of a level stand together, and the levels change places.
+pub fn versions(random: &mut Random) -> Vec<u8> {
+    let mut store = vec![0; STORE];
+    for label in 0..LABELS {
+        let lower: Vec<u8> = (0..LABELS).filter(|low| *low != label && dominates(label, *low)).collect();
+        let name = 1 + random.below(65_535) as u16;
+        let mut paths = vec![Path::new(&[Step { name, label }])];
+        for at in 0..FULL - 1 {
+            let (version, below) =
+                if lower.is_empty() { (label, at) } else { (lower[at % lower.len()], at / lower.len()) };
+            paths.push(Path::new(&[Step { name, label: version }, Step { name: 1 + below as u16, label }]));
+        }
+        put_before(&mut store, label, paths);
+    }
+    store
+}
+
+/// A full store of before whose paths have one name five times and differ in the levels of these steps, which rise: in the
+/// new order they come the other way round. Where there are too few such paths the last step's name differs too.
+pub fn opposite(random: &mut Random) -> Vec<u8> {
+    let mut store = vec![0; STORE];
+    for label in 0..LABELS {
+        let name = 1 + random.below(65_535) as u16;
+        let below = if label % 8 == 0 { (label / 8).max(1) } else { label / 8 + 1 };
+        let all = (0..4_usize.pow(5)).map(|number| (0..5).map(move |at| (number >> (2 * at) & 3) as u8));
+        let rising: Vec<Vec<u8>> = all.map(Iterator::collect).filter(|levels: &Vec<u8>| levels.is_sorted()).collect();
+        let levels: Vec<&Vec<u8>> = rising.iter().filter(|levels| levels[4] < below).collect();
+        let last = |at: usize| Step { name: 1 + (at / levels.len()) as u16, label };
+        let step = |levels: &[u8], at: usize| Step { name, label: 8 * levels[at] };
+        let path = |at: usize| {
+            Path::of(DEPTH, |step_at| match step_at {
+                5 => last(at),
+                _ => step(levels[at % levels.len()], step_at),
+            })
+        };
+        let paths = if label == 0 {
+            (0..FULL).map(|at| Path::new(&[last(at)])).collect()
+        } else {
+            (0..FULL).map(path).collect()
+        };
+        put_before(&mut store, label, paths);
+    }
+    store
 }
 
 /// A path of this label that nothing has yet: a child of the root, of its own label's elements or of a lower one's.

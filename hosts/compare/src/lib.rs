@@ -1,11 +1,13 @@
 //! Document 01 as a Rust program: the store's bytes, the four calls, the printed view and the call runner; and of
-//! document 02 the view as XML, the update that keeps what is below, the even grade, XML intake and the insert that makes
-//! the missing groups. It is written from the documents alone and shares nothing with the product.
+//! document 02 the view as XML, the update that keeps what is below, the even grade, XML intake, the insert that makes
+//! the missing groups, and the order with the highest level first and the migration to it. It is written from the documents
+//! alone and shares nothing with the product.
 
 pub mod calls;
 mod intake;
 pub mod label;
 mod listing;
+pub mod migration;
 pub mod partition;
 pub mod path;
 pub mod random;
@@ -14,4 +16,5 @@ pub mod value;
 mod xml;
 
 pub use calls::{Answer, Grade, delete, grade, insert, insert_xml, update, view, view_xml};
+pub use migration::{Migration, migrate};
 pub use partition::STORE;

@@ -2,6 +2,7 @@
 use crate::label::dominates;
 use crate::path::{DEPTH, Path, Step};
 use crate::value::{LONGEST, Value};
+use std::cmp::Ordering;
 
 /// The bytes of a slot.
 pub const SLOT: usize = 40;
@@ -124,18 +125,28 @@ impl<'a> Partition<'a> {
 
     /// Whether it is well formed.
     pub fn is_well_formed(self) -> bool {
+        self.is_well_formed_by(|before, path| before < path)
+    }
+
+    /// Whether it is well formed in the order of before.
+    pub fn was_well_formed(self) -> bool {
+        self.is_well_formed_by(|before, path| before.old_cmp(path) == Ordering::Less)
+    }
+
+    /// Whether it is well formed in this order, which has a beginning before its extensions, and these together.
+    pub fn is_well_formed_by(self, is_before: impl FnMut(&Path, &Path) -> bool) -> bool {
         usize::from(self.bytes[0]) <= SLOTS
             && is_zero(&self.bytes[1..HEAD])
             && is_zero(&self.bytes[HEAD + SLOT * self.count()..])
-            && self.elements_are_well_formed()
+            && self.elements_are_well_formed(is_before)
     }
 
     /// Whether the counted slots hold valid elements in rising order, each with its beginnings of the same label.
-    fn elements_are_well_formed(self) -> bool {
+    fn elements_are_well_formed(self, mut is_before: impl FnMut(&Path, &Path) -> bool) -> bool {
         let mut before = Path::default();
         self.slots().all(|slot| {
             let Some(path) = slot.valid_path(self.own) else { return false };
-            let fits = before < path && self.has_parent(&before, &path);
+            let fits = is_before(&before, &path) && self.has_parent(&before, &path);
             before = path;
             fits
         })
@@ -179,6 +190,23 @@ pub fn partition(store: &[u8], label: u8) -> Partition<'_> {
 pub fn dominated(store: &[u8], subject: u8) -> impl Iterator<Item = Partition<'_>> {
     let parts = store.as_chunks().0;
     (0..).zip(parts).filter(move |(own, _)| dominates(subject, *own)).map(|(own, bytes)| Partition { own, bytes })
+}
+
+/// Brings the counted slots of a partition into the order of now.
+pub fn sort_slots(store: &mut [u8], label: u8) {
+    let count = partition(store, label).count();
+    let slots = &mut partition_mut(store, label)[HEAD..].as_chunks_mut::<SLOT>().0[..count];
+    let (mut paths, mut kept) = ([Path::default(); SLOTS], [[0; SLOT]; SLOTS]);
+    let kept = &mut kept[..count];
+    kept.copy_from_slice(slots);
+    for (path, slot) in paths.iter_mut().zip(&*kept) {
+        *path = Slot(slot).path();
+    }
+    let mut places: [u8; SLOTS] = std::array::from_fn(|at| at as u8);
+    places[..count].sort_by_key(|at| &paths[usize::from(*at)]);
+    for (slot, from) in slots.iter_mut().zip(places) {
+        *slot = kept[usize::from(from)];
+    }
 }
 
 /// The bytes of this label's partition, to be written.

@@ -5,11 +5,36 @@ use std::cmp::Ordering;
 /// The most steps of a path.
 pub const DEPTH: usize = 6;
 
-/// One step. The order is by name first and then by label.
-#[derive(Clone, Copy, Default, PartialEq, Eq, PartialOrd, Ord, Debug)]
+/// One step. The order is by name first, then by level from high to low, then by compartments from low to high.
+#[derive(Clone, Copy, Default, PartialEq, Eq, Debug)]
 pub struct Step {
     pub name: u16,
     pub label: u8,
+}
+
+impl Step {
+    /// A number that is the lower the earlier the step comes: with the level's two bits turned over, the label's number
+    /// falls from level to level.
+    fn rank(self) -> u32 {
+        u32::from(self.name) << 8 | u32::from(self.label ^ 0b11000)
+    }
+
+    /// The same for the order of before document 02's seventh request: by name first and then by label.
+    fn old_rank(self) -> u32 {
+        u32::from(self.name) << 8 | u32::from(self.label)
+    }
+}
+
+impl Ord for Step {
+    fn cmp(&self, other: &Step) -> Ordering {
+        self.rank().cmp(&other.rank())
+    }
+}
+
+impl PartialOrd for Step {
+    fn partial_cmp(&self, other: &Step) -> Option<Ordering> {
+        Some(self.cmp(other))
+    }
 }
 
 /// A path of up to six steps; that of the root has none.
@@ -93,6 +118,11 @@ impl Path {
     /// Whether it is the other path or extends it.
     pub fn extends(&self, other: &Path) -> bool {
         self.steps().starts_with(other.steps())
+    }
+
+    /// Which of two paths came first in the order of before.
+    pub fn old_cmp(&self, other: &Path) -> Ordering {
+        self.steps().iter().map(|step| step.old_rank()).cmp(other.steps().iter().map(|step| step.old_rank()))
     }
 
     /// How many steps both begin with.

@@ -1,13 +1,14 @@
-//! Document 01's test cuts and examples of XML, of updates, of grades, of XML intake and of missing groups, run on the
-//! Rust program, and its well-formedness test, listing, XML, updates, grades, XML intake and inserts against plain
-//! definitions.
+//! Document 01's test cuts and examples of XML, of updates, of grades, of XML intake, of missing groups and of the
+//! migration, run on the Rust program, and its well-formedness test, listing, XML, updates, grades, XML intake, inserts,
+//! order and migration against plain definitions.
 use reference::label::{LABELS, dominates};
-use reference::partition::{PARTITION, partition};
+use reference::partition::{HEAD, PARTITION, SLOT, partition, slot_of};
 use reference::path::{DEPTH, Path, Step};
 use reference::random::Random;
 use reference::value::{GROUP, MEASURE, TEXT, Value};
-use reference::{STORE, delete, grade, insert, insert_xml, script, update, view, view_xml};
-use std::collections::BTreeMap;
+use reference::{Migration, STORE, delete, grade, insert, insert_xml, migrate, script, update, view, view_xml};
+use std::cmp::Ordering;
+use std::collections::{BTreeMap, BTreeSet};
 
 /// The bytes of a path given as names and labels.
 fn path(steps: &[(u16, u8)]) -> Vec<u8> {
@@ -148,8 +149,8 @@ fn an_update_keeps_what_is_below() {
     ] {
         assert_eq!(updated(&mut store, 8, &piece, kind, value), (0, 1));
         let top = format!("1 10 8 P G -;2 20 8 P {shown};");
-        let below = ["3 1 8 P G -;", "3 1 24 P G -;4 2 24 P G -;", "3 9 8 P G -;"];
-        assert_eq!(seen(&store, 8), format!("VIEW 8 5;{top}{}{}2 21 8 P G -;", below[0], below[2]));
+        let below = ["3 1 24 P G -;4 2 24 P G -;", "3 1 8 P G -;", "3 9 8 P G -;"];
+        assert_eq!(seen(&store, 8), format!("VIEW 8 5;{top}{}{}2 21 8 P G -;", below[1], below[2]));
         assert_eq!(seen(&store, 24), format!("VIEW 24 7;{top}{}2 21 8 P G -;", below.concat()));
     }
     assert_eq!(delete(&mut store, 8, &path(&piece)).count, 3);
@@ -798,4 +799,155 @@ fn a_missing_beginning_is_found_at_every_depth() {
         assert!(!partition(&corrupted, 0).is_well_formed(), "without the path of {} steps", gone + 1);
     }
     assert!(partition(&store, 0).is_well_formed());
+}
+
+/// The path of names and labels.
+fn steps(given: &[(u16, u8)]) -> Path {
+    Path::new(&given.iter().map(|(name, label)| Step { name: *name, label: *label }).collect::<Vec<_>>())
+}
+
+/// Lays texts at these paths into a label's partition, in the order in which they are given.
+fn put(store: &mut [u8], label: u8, paths: &[Path]) {
+    let part = &mut store[PARTITION * usize::from(label)..][..PARTITION];
+    part.fill(0);
+    part[0] = paths.len() as u8;
+    for (slot, (at, path)) in part[HEAD..].as_chunks_mut::<SLOT>().0.iter_mut().zip(paths.iter().enumerate()) {
+        *slot = slot_of(path, TEXT as u8, format!("{at:02}").as_bytes());
+    }
+}
+
+/// The paths of a label's partition.
+fn paths_of(store: &[u8], label: u8) -> Vec<Path> {
+    partition(store, label).slots().map(|slot| slot.path()).collect()
+}
+
+#[test]
+fn the_highest_level_is_on_top() {
+    let mut store = vec![0; STORE];
+    for (name, label) in [(10, 0), (10, 8), (10, 9), (10, 16), (10, 24), (10, 1), (9, 31)] {
+        assert_eq!(group(&mut store, label.into(), &[(name, label)]), 0);
+    }
+    let lines = "1 9 31 P G -;1 10 24 P G -;1 10 16 P G -;1 10 8 P G -;1 10 9 P G -;1 10 0 P G -;1 10 1 P G -;";
+    assert_eq!(seen(&store, 31), format!("VIEW 31 7;{lines}"));
+}
+
+#[test]
+fn example_of_the_migration() {
+    let mut store = vec![0; STORE];
+    put(&mut store, 0, &[steps(&[(10, 0)]), steps(&[(11, 0)])]);
+    put(&mut store, 8, &[steps(&[(10, 8)])]);
+    let order = [&[(10, 0), (1, 9)][..], &[(10, 8), (1, 9)], &[(10, 9)], &[(10, 9), (1, 9)]].map(steps);
+    put(&mut store, 9, &order);
+    store[PARTITION * 5 + 2] = 1;
+    let number = |store: &[u8], subject| view(store, subject, &[], &mut [0; 200]);
+    assert_eq!((number(&store, 9).number, number(&store, 8).count), (3, 51));
+    assert_eq!(migrate(&mut store), Migration { number: 0, mask: 32 });
+    assert_eq!(paths_of(&store, 9), [1, 2, 3, 0].map(|at| order[at]));
+    assert_eq!((number(&store, 9).count, number(&store, 5).number), (104, 3));
+    let after = store.clone();
+    assert_eq!(migrate(&mut store), Migration { number: 0, mask: 544 });
+    assert!(store == after);
+    assert_eq!(migrate(&mut [0; STORE - 1]), Migration { number: 1, mask: 0 });
+}
+
+/// Which of two paths is first by the document's words, with a number for each label that tells which comes first.
+fn plain_order(one: &Path, two: &Path, place: fn(u8) -> (i32, u8)) -> Ordering {
+    for (one, two) in one.steps().iter().zip(two.steps()) {
+        let order = one.name.cmp(&two.name).then(place(one.label).cmp(&place(two.label)));
+        if order != Ordering::Equal {
+            return order;
+        }
+    }
+    one.depth().cmp(&two.depth())
+}
+
+/// The order of now: level from high to low, then compartments from low to high.
+fn plain_now(one: &Path, two: &Path) -> Ordering {
+    plain_order(one, two, |label| (-i32::from(label / 8), label % 8))
+}
+
+/// The order of before: by the label's number.
+fn plain_before(one: &Path, two: &Path) -> Ordering {
+    plain_order(one, two, |label| (0, label))
+}
+
+#[test]
+fn paths_are_ordered_as_the_document_says() {
+    let mut random = Random::new(11);
+    let any = |random: &mut Random| {
+        let step = |random: &mut Random| (random.pick(&[1, 2, 256]), random.below(32) as u8);
+        let given: Vec<(u16, u8)> = (0..random.below(4)).map(|_| step(random)).collect();
+        steps(&given)
+    };
+    let mut met = BTreeSet::new();
+    for _ in 0..20_000 {
+        let (one, two) = (any(&mut random), any(&mut random));
+        assert_eq!(one.cmp(&two), plain_now(&one, &two), "{one:?} {two:?}");
+        assert_eq!(one.old_cmp(&two), plain_before(&one, &two), "{one:?} {two:?}");
+        met.insert((one.cmp(&two), one.old_cmp(&two)));
+    }
+    assert_eq!(met.len(), 5, "before, equal and behind in both, and each of the others by one alone");
+}
+
+/// Whether a partition of valid elements is well formed by the document's words in an order.
+fn is_plainly_well_formed(paths: &[Path], label: u8, order: fn(&Path, &Path) -> Ordering) -> bool {
+    let beginnings = |path: &Path| (1..path.depth()).map(|depth| path.beginning(depth)).collect::<Vec<_>>();
+    let has_own = |path: &Path| {
+        path.label() == Some(label)
+            && beginnings(path).iter().all(|above| above.label() != Some(label) || paths.contains(above))
+    };
+    paths.windows(2).all(|pair| order(&pair[0], &pair[1]) == Ordering::Less) && paths.iter().all(has_own)
+}
+
+/// A store most of whose partitions are in the order of before, and some of them not well formed in it.
+fn mostly_before(random: &mut Random) -> Vec<u8> {
+    let mut store = grown(random);
+    for label in 0..LABELS {
+        let mut paths = paths_of(&store, label);
+        if random.percent(70) {
+            paths.sort_by(plain_before);
+        }
+        if let (true, Some(last)) = (random.percent(10), paths.len().checked_sub(1).filter(|last| *last > 0)) {
+            paths.swap(random.below(last), last);
+        }
+        if random.percent(10) && paths.len() > 1 {
+            paths.remove(random.below(paths.len()));
+        }
+        put(&mut store, label, &paths);
+    }
+    store
+}
+
+#[test]
+fn a_migration_does_what_the_document_says() {
+    let mut random = Random::new(12);
+    let mut met = [0; 4];
+    for _ in 0..300 {
+        let before = mostly_before(&mut random);
+        let mut store = before.clone();
+        let Migration { number, mask } = migrate(&mut store);
+        assert_eq!(number, 0);
+        for label in 0..LABELS {
+            let mut paths = paths_of(&before, label);
+            let was = is_plainly_well_formed(&paths, label, plain_before);
+            let is = is_plainly_well_formed(&paths, label, plain_now);
+            assert_eq!(mask >> label & 1 == 0, was, "the bit of {label}");
+            met[usize::from(was) + 2 * usize::from(is)] += 1;
+            let part = |store: &[u8]| store.as_chunks::<PARTITION>().0[usize::from(label)];
+            if !was || is {
+                assert_eq!(part(&store), part(&before), "partition {label}");
+                continue;
+            }
+            paths.sort_by(plain_now);
+            assert_eq!(paths_of(&store, label), paths);
+            assert_eq!(elements_of(&store, label), elements_of(&before, label));
+            assert!(partition(&store, label).is_well_formed(), "partition {label}");
+        }
+    }
+    assert!(met.iter().all(|count| *count > 30), "{met:?}");
+}
+
+/// Every element of a partition and, in words, its value.
+fn elements_of(store: &[u8], label: u8) -> BTreeMap<Path, String> {
+    partition(store, label).slots().map(|slot| (slot.path(), format!("{:?}", slot.value()))).collect()
 }

@@ -58,6 +58,20 @@ A style sent as XML, all of it at once, a group with a measure inside it, and th
     >>> store.view_xml(house_subject, style + [Step(30, house_subject)]) == f'<dossier subject="16">{sent}</dossier>'
     True
 
+Versions under one name, the sealed one on top:
+
+    >>> sealed_subject = Label(Level.SEALED)
+    >>> store.insert(sealed_subject, style + [Step(20, sealed_subject)], Measure(-140))
+    0
+    >>> [line.label.level.name for line in store.view(sealed_subject, style) if line.name == 20]
+    ['SEALED', 'HOUSE']
+
+A store that was written before the path order changed is migrated once, before calls resume; the mask names the partitions that
+were left as they were:
+
+    >>> Store().migrate().labels()
+    []
+
 A refusal has a number and changes nothing:
 
     >>> try:
@@ -66,7 +80,7 @@ A refusal has a number and changes nothing:
     ...     print(refused.answer.number, refused.refusal is Refusal.ABSENT)
     7 True
 """
-from .answer import Answer, Grade, GradeAnswer, Refusal, Refused, UnexpectedAnswer
+from .answer import Answer, Grade, GradeAnswer, Mask, MigrationAnswer, Refusal, Refused, UnexpectedAnswer
 from .label import Compartment, Label, Level
 from .listing import Line, Unreadable, View
 from .path import Step
@@ -85,7 +99,9 @@ __all__ = [
     "Label",
     "Level",
     "Line",
+    "Mask",
     "Measure",
+    "MigrationAnswer",
     "PARTITION_BYTES",
     "Refusal",
     "Refused",

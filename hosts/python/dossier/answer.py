@@ -3,9 +3,11 @@ import ctypes
 from enum import IntEnum
 from typing import NamedTuple
 
+from .label import Label
+
 
 class Answer(NamedTuple):
-    """What every call but a grade answers: 0 or the number of its refusal, and its count."""
+    """What every call but a grade and the migration answers: 0 or the number of its refusal, and its count."""
 
     number: int
     count: int
@@ -36,6 +38,31 @@ class GradeAnswer(NamedTuple):
         return Grade(self.step, self.remainder)
 
 
+class MigrationAnswer(NamedTuple):
+    """What the migration answers: 0, or 1 for a store of another length, and the mask."""
+
+    number: int
+    mask: int
+
+    def outcome(self):
+        """The mask of a migration that is done; else Refused or UnexpectedAnswer is raised."""
+        if self.number > Refusal.STORE_LENGTH:
+            raise UnexpectedAnswer(self)
+        _raise_unless_done(self)
+        return Mask(self.mask)
+
+
+class Mask(NamedTuple):
+    """The partitions that a migration left as they were, since they were not well formed in the order of before: bit n for the
+    partition of label n. One that stands in the order of now already may be among them: it is no list of broken partitions."""
+
+    bits: int
+
+    def labels(self):
+        """The labels of these partitions, from low to high."""
+        return [Label.from_number(number) for number in range(32) if self.bits >> number & 1]
+
+
 def _raise_unless_done(answer):
     """Raises Refused for the number of a refusal with zeros behind it, and UnexpectedAnswer for what else is not done."""
     if answer.number == 0:
@@ -57,13 +84,19 @@ class ExportedGrade(ctypes.Structure):
     _fields_ = [("number", ctypes.c_uint32), ("step", ctypes.c_int64), ("remainder", ctypes.c_uint32)]
 
 
+class ExportedMigration(ctypes.Structure):
+    """The answer of the migration as the library returns it."""
+
+    _fields_ = [("number", ctypes.c_uint32), ("mask", ctypes.c_uint32)]
+
+
 class Refusal(IntEnum):
     """Why a call is refused: the first cause that applies, in this order but for 11, which a grade tests right after 4, and 13
     and 14, which an XML intake tests there. A refused call leaves the store and the output."""
 
     STORE_LENGTH = 1  # the store is not 41,088 bytes long
     SUBJECT = 2  # the subject is no label
-    NOT_WELL_FORMED = 3  # a partition that the subject dominates is not well formed
+    NOT_WELL_FORMED = 3  # a partition that the subject dominates is not well formed, or stands in the order of before
     PATH = 4  # the path is none, or it is the root's and the call is no view, no grade and no XML intake; of a grade, either path
     VALUE = 5  # the kind, or the value's length or bytes, are not allowed
     OTHER_LABEL = 6  # the path's last label is not the subject's

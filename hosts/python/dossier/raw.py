@@ -8,7 +8,7 @@ waiting.
 import ctypes
 import operator
 
-from .answer import Answer, ExportedAnswer, ExportedGrade, GradeAnswer
+from .answer import Answer, ExportedAnswer, ExportedGrade, ExportedMigration, GradeAnswer, MigrationAnswer
 from .archive import shared_object
 
 # How many bytes a store has.
@@ -36,6 +36,7 @@ _DECLARED = {
     "dossier_delete": (_BUFFER + _WORD + _BUFFER, ExportedAnswer),
     "dossier_grade": (_BUFFER + _WORD + _BUFFER + _BUFFER + _WORD, ExportedGrade),
     "dossier_insert_xml": (_BUFFER + _WORD + _BUFFER + _BUFFER, ExportedAnswer),
+    "dossier_migrate": (_BUFFER, ExportedMigration),
 }
 
 
@@ -138,6 +139,13 @@ def insert_xml(store, subject, parent, text):
     store, parent, text = _written(store), _read(parent), _read(text)
     _apart(store, parent, text)
     return _answer(_library.dossier_insert_xml(*_lend(store), _word(subject), *_lend(parent), *_lend(text)))
+
+
+def migrate(store):
+    """The migration of a store that was written before the path order changed: each partition that is well formed in the order of
+    before gets its elements in the order of now, each other keeps its bytes, and its bit in the mask is set."""
+    exported = _library.dossier_migrate(*_lend(_written(store)))
+    return MigrationAnswer(exported.number, exported.mask)
 
 
 def _look(function, store, subject, path, output):

@@ -53,3 +53,10 @@ class Store:
         in any order. All of its elements are made below the parent, or none; the parent must be in view, be it removed. The
         count: how many elements were made."""
         return raw.insert_xml(self.buffer, subject.number, path_bytes(parent), text.encode()).outcome()
+
+    def migrate(self):
+        """The migration of a store that was written before the path order changed, to be run once by the store's owner, before
+        calls resume. Each partition that is well formed in the order of before, by name and then by the label's number, gets the
+        same elements in the order of now; each other keeps its bytes and is in the mask. A second migration changes no byte; the
+        partitions that the first changed are in its mask too."""
+        return raw.migrate(self.buffer).outcome()

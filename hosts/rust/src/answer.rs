@@ -2,7 +2,9 @@
 
 use std::fmt;
 
-/// What every call but a grade answers: 0 or the number of its refusal, and its count.
+use crate::label::Label;
+
+/// What every call but a grade and the migration answers: 0 or the number of its refusal, and its count.
 #[repr(C)]
 #[derive(Clone, Copy, Debug, PartialEq, Eq, Hash)]
 #[must_use]
@@ -60,6 +62,50 @@ pub struct Grade {
     pub remainder: u32,
 }
 
+/// What the migration answers: 0 or 1, and the mask.
+#[repr(C)]
+#[derive(Clone, Copy, Debug, PartialEq, Eq, Hash)]
+#[must_use]
+pub struct MigrationAnswer {
+    /// 0 if the migration is done, 1 if the store has another length.
+    pub number: u32,
+    /// Of a migration that is done the mask: bit n is set if partition n was not well formed in the order of before; else 0.
+    pub mask: u32,
+}
+
+impl MigrationAnswer {
+    /// The mask of a migration that is done, or why it is not.
+    pub fn outcome(self) -> Result<Mask, Error> {
+        match self {
+            MigrationAnswer { number: 0, mask } => Ok(Mask(mask)),
+            MigrationAnswer { number: 1, mask: 0 } => Err(Error::Refused(Refusal::StoreLength)),
+            _ => Err(Error::UnexpectedMigration(self)),
+        }
+    }
+}
+
+/// The partitions that a migration left as they were, since they were not well formed in the order of before. One that stands in
+/// the order of now already may be among them: the mask is no list of broken partitions.
+#[derive(Clone, Copy, Debug, PartialEq, Eq, Hash)]
+pub struct Mask(u32);
+
+impl Mask {
+    /// The mask as a number: bit n is that of the partition of label n.
+    pub const fn bits(self) -> u32 {
+        self.0
+    }
+
+    /// Whether the partition of a label was left as it was.
+    pub const fn has(self, label: Label) -> bool {
+        self.0 >> label.number() & 1 == 1
+    }
+
+    /// The labels of the partitions that were left as they were, from low to high.
+    pub fn labels(self) -> impl Iterator<Item = Label> {
+        (0..32).filter_map(Label::from_number).filter(move |label| self.has(*label))
+    }
+}
+
 /// Why a call is refused: the first cause that applies, in this order but for 11, which a grade tests right after 4, and 13 and
 /// 14, which an XML intake tests there. A refused call leaves the store and the output.
 #[derive(Clone, Copy, Debug, PartialEq, Eq, PartialOrd, Ord, Hash)]
@@ -68,7 +114,8 @@ pub enum Refusal {
     StoreLength = 1,
     /// 2: the subject is no label.
     Subject = 2,
-    /// 3: a partition that the subject dominates is not well formed.
+    /// 3: a partition that the subject dominates is not well formed. One that was written before the path order changed and holds
+    /// versions of one name at two levels is not well formed until [`Store::migrate`](crate::Store::migrate) is called.
     NotWellFormed = 3,
     /// 4: the path is none, or it is the root's and the call is no view, no grade and no XML intake; of a grade, either path.
     Path = 4,
@@ -162,17 +209,20 @@ pub enum Error {
     Unexpected(Answer),
     /// The answer of a grade is not one of those that this package knows: the archive is of another version.
     UnexpectedGrade(GradeAnswer),
+    /// The answer of a migration is not one of those that this package knows: the archive is of another version.
+    UnexpectedMigration(MigrationAnswer),
     /// A line of a listing does not read as one, or XML is no text: the archive is of another version.
     Unreadable,
 }
 
 impl Error {
-    /// What the call answered, number and count; nothing for an unexpected grade, which has no count, and what does not read.
+    /// What the call answered, number and count; nothing for an unexpected grade or migration, which have no count, and what does
+    /// not read.
     pub fn answer(self) -> Option<Answer> {
         match self {
             Error::Refused(refusal) => Some(Answer { number: refusal.number(), count: 0 }),
             Error::Unexpected(answer) => Some(answer),
-            Error::UnexpectedGrade(_) | Error::Unreadable => None,
+            Error::UnexpectedGrade(_) | Error::UnexpectedMigration(_) | Error::Unreadable => None,
         }
     }
 }
@@ -184,6 +234,9 @@ impl fmt::Display for Error {
             Error::Unexpected(Answer { number, count }) => write!(out, "unexpected answer: number {number}, count {count}"),
             Error::UnexpectedGrade(GradeAnswer { number, step, remainder }) => {
                 write!(out, "unexpected answer: number {number}, step {step}, remainder {remainder}")
+            }
+            Error::UnexpectedMigration(MigrationAnswer { number, mask }) => {
+                write!(out, "unexpected answer: number {number}, mask {mask}")
             }
             Error::Unreadable => write!(out, "a line of the listing, or the XML, does not read"),
         }
@@ -233,11 +286,36 @@ mod tests {
     }
 
     #[test]
+    fn a_migration_has_one_outcome() {
+        let answer = |number, mask| MigrationAnswer { number, mask };
+        assert_eq!(answer(0, 544).outcome().map(Mask::bits), Ok(544));
+        assert_eq!(answer(0, 0).outcome().map(Mask::bits), Ok(0));
+        assert_eq!(answer(1, 0).outcome(), Err(Error::Refused(Refusal::StoreLength)));
+        for answer in [answer(1, 1), answer(2, 0), answer(3, 0), answer(15, 0), answer(u32::MAX, u32::MAX)] {
+            assert_eq!(answer.outcome(), Err(Error::UnexpectedMigration(answer)));
+            assert_eq!(Error::UnexpectedMigration(answer).answer(), None);
+        }
+    }
+
+    #[test]
+    fn a_mask_has_the_labels_of_its_bits() {
+        let numbers = |mask: u32| Mask(mask).labels().map(Label::number).collect::<Vec<_>>();
+        assert_eq!(numbers(0), []);
+        assert_eq!(numbers(544), [5, 9]);
+        assert_eq!(numbers(0x8000_0001), [0, 31]);
+        assert_eq!(numbers(u32::MAX), (0..32).collect::<Vec<_>>());
+        let has = |number| Label::from_number(number).is_some_and(|label| Mask(544).has(label));
+        assert_eq!((0..32).filter(|number| has(*number)).collect::<Vec<_>>(), [5, 9]);
+    }
+
+    #[test]
     fn a_refusal_says_its_number() {
         assert_eq!(Error::Refused(Refusal::Subject).to_string(), "refused by 2: the subject is no label");
         assert_eq!(Error::Refused(Refusal::NoMeasure).to_string(), "refused by 12: a path of the grade is no live measure's");
         assert_eq!(Error::Refused(Refusal::Form).to_string(), "refused by 13: the text is not in form");
         let unexpected = Error::UnexpectedGrade(GradeAnswer { number: 7, step: -1, remainder: 2 });
         assert_eq!(unexpected.to_string(), "unexpected answer: number 7, step -1, remainder 2");
+        let unexpected = Error::UnexpectedMigration(MigrationAnswer { number: 1, mask: 5 });
+        assert_eq!(unexpected.to_string(), "unexpected answer: number 1, mask 5");
     }
 }

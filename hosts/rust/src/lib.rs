@@ -61,6 +61,19 @@
 //! let xml = store.view_xml(house, &style.child(30, house), &mut output)?;
 //! assert_eq!(xml, format!(r#"<dossier subject="16">{sent}</dossier>"#));
 //!
+//! // Versions under one name: the sealed one is on top.
+//! let sealed = Label::new(Level::Sealed, &[]);
+//! store.insert(sealed, &style.child(20, sealed), Value::Measure(-140))?;
+//! let mut output = [0; 200];
+//! let view = store.view(sealed, &style, &mut output)?;
+//! let versions = view.lines().filter(|line| matches!(line, Ok(Line { name: 20, .. })));
+//! let labels = versions.map(|line| line.map(|line| line.label)).collect::<Result<Vec<Label>, Error>>()?;
+//! assert_eq!(labels, [sealed, house]);
+//!
+//! // A store that was written before the path order changed is migrated once, before calls resume; this one needs nothing.
+//! let before = Store::empty().migrate()?;
+//! assert_eq!(before.bits(), 0);
+//!
 //! // A refusal has a number and changes nothing.
 //! let refused = store.delete(open, &style);
 //! assert_eq!(refused, Err(Error::Refused(Refusal::Absent)));
@@ -81,7 +94,7 @@ pub mod raw;
 mod store;
 mod value;
 
-pub use answer::{Answer, Error, Grade, GradeAnswer, Refusal};
+pub use answer::{Answer, Error, Grade, GradeAnswer, Mask, MigrationAnswer, Refusal};
 pub use label::{Compartment, Label, Level};
 pub use listing::{Line, Lines, Mark, View};
 pub use path::Path;

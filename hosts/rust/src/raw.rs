@@ -2,10 +2,10 @@
 //!
 //! Each is safe for every input: the library refuses what it does not allow. `include/dossier.h` says what the calls do.
 
-use crate::answer::{Answer, GradeAnswer};
+use crate::answer::{Answer, GradeAnswer, MigrationAnswer};
 
 mod exported {
-    use crate::answer::{Answer, GradeAnswer};
+    use crate::answer::{Answer, GradeAnswer, MigrationAnswer};
 
     extern "C" {
         pub fn dossier_view(
@@ -66,6 +66,7 @@ mod exported {
             text: *const u8,
             text_length: usize,
         ) -> Answer;
+        pub fn dossier_migrate(store: *mut u8, store_length: usize) -> MigrationAnswer;
     }
 }
 
@@ -158,4 +159,11 @@ pub fn insert_xml(store: &mut [u8], subject: u32, parent: &[u8], text: &[u8]) ->
             text.len(),
         )
     }
+}
+
+/// The migration of a store that was written before the path order changed: each partition that is well formed in the order of
+/// before gets its elements in the order of now, each other keeps its bytes, and its bit in the mask is set.
+pub fn migrate(store: &mut [u8]) -> MigrationAnswer {
+    // SAFETY: the pointer reaches as many bytes as its length says; the store overlaps nothing, being a `&mut`.
+    unsafe { exported::dossier_migrate(store.as_mut_ptr(), store.len()) }
 }

@@ -2,7 +2,7 @@
 
 use std::str;
 
-use crate::answer::{Error, Grade};
+use crate::answer::{Error, Grade, Mask};
 use crate::label::Label;
 use crate::listing::View;
 use crate::path::Path;
@@ -117,5 +117,13 @@ impl Store<'_> {
     /// removed. The count: how many elements were made.
     pub fn insert_xml(&mut self, subject: Label, parent: &Path, text: &str) -> Result<u64, Error> {
         raw::insert_xml(self.as_mut_bytes(), subject.number(), parent.as_bytes(), text.as_bytes()).outcome()
+    }
+
+    /// The migration of a store that was written before the path order changed, to be run once by the store's owner, before calls
+    /// resume. Each partition that is well formed in the order of before, by name and then by the label's number, gets the same
+    /// elements in the order of now; each other keeps its bytes and is in the [`Mask`]. A second migration changes no byte; the
+    /// partitions that the first changed are in its mask too.
+    pub fn migrate(&mut self) -> Result<Mask, Error> {
+        raw::migrate(self.as_mut_bytes()).outcome()
     }
 }

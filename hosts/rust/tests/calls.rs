@@ -1,9 +1,9 @@
 //! The calls through the package: document 01's example, every refusal, what is left untouched, what an update keeps, XML read
-//! back, grades, styles taken in as XML, and missing groups.
+//! back, grades, styles taken in as XML, missing groups, the order of versions, and the migration of stores written before.
 
 use dossier::{
-    raw, Answer, Error, Grade, GradeAnswer, Label, Line, Mark, Path, Refusal, Store, Value, LISTING_BYTES_MAX, PARTITION_BYTES,
-    STORE_BYTES, XML_BYTES_MAX,
+    raw, Answer, Error, Grade, GradeAnswer, Label, Line, Mark, Mask, MigrationAnswer, Path, Refusal, Store, Value,
+    LISTING_BYTES_MAX, PARTITION_BYTES, STORE_BYTES, XML_BYTES_MAX,
 };
 
 /// What every output holds before a call.
@@ -773,4 +773,131 @@ fn a_view_as_xml_is_taken_in_again() {
         assert_eq!(other.insert_xml(label(0), &Path::root(), text.expect("the dossier tag")), Ok(1));
         assert_eq!(xml(&other, 0, &[(name, 0)]), viewed);
     }
+}
+
+#[test]
+fn the_highest_level_is_on_top() {
+    let mut store = Store::empty();
+    for (name, number) in [(10, 0), (10, 8), (10, 9), (10, 16), (10, 24), (10, 1), (9, 31)] {
+        assert_eq!(store.insert(label(number), &path(&[(name, number)]), Value::Group), Ok(0));
+    }
+    let lines = "1 9 31 P G -;1 10 24 P G -;1 10 16 P G -;1 10 8 P G -;1 10 9 P G -;1 10 0 P G -;1 10 1 P G -;";
+    assert_eq!(seen(&store, 31).replace('\t', " ").replace('\n', ";"), format!("VIEW 31 7;{lines}"));
+    let groups =
+        [(9, 31), (10, 24), (10, 16), (10, 8), (10, 9), (10, 0), (10, 1)].map(|(name, number)| sent_groups(name, number, 0..0));
+    assert_eq!(xml(&store, 31, &[]), format!(r#"<dossier subject="31">{}</dossier>"#, groups.concat()));
+}
+
+/// The bytes of a partition with texts at these paths, in the order in which they are given.
+fn partition(paths: &[&[(u16, u8)]]) -> Vec<u8> {
+    let mut bytes = vec![paths.len() as u8, 0, 0, 0];
+    for steps in paths {
+        let mut slot = [0; 40];
+        slot[0] = steps.len() as u8;
+        for (at, (name, label)) in steps.iter().enumerate() {
+            slot[1 + 2 * at..3 + 2 * at].copy_from_slice(&name.to_le_bytes());
+            slot[13 + at] = *label;
+        }
+        slot[19..23].copy_from_slice(&[2, 2, b'a', b'b']);
+        bytes.extend(slot);
+    }
+    bytes.resize(PARTITION_BYTES, 0);
+    bytes
+}
+
+/// The bytes of a label's partition in a store.
+fn part(store: &[u8], label: usize) -> &[u8] {
+    &store[PARTITION_BYTES * label..PARTITION_BYTES * (label + 1)]
+}
+
+/// The store of the worked example of the migration, written before; partition 5 is broken.
+fn written_before() -> Store<'static> {
+    let mut store = Store::empty();
+    let parts = [
+        (0, partition(&[&[(10, 0)], &[(11, 0)]])),
+        (8, partition(&[&[(10, 8)]])),
+        (9, partition(&[&[(10, 0), (1, 9)], &[(10, 8), (1, 9)], &[(10, 9)], &[(10, 9), (1, 9)]])),
+    ];
+    for (label, bytes) in parts {
+        store.as_mut_bytes()[PARTITION_BYTES * label..PARTITION_BYTES * (label + 1)].copy_from_slice(&bytes);
+    }
+    store.as_mut_bytes()[PARTITION_BYTES * 5 + 2] = 1;
+    store
+}
+
+/// How many bytes a view of all has, or why it is refused.
+fn viewed(store: &Store, subject: u32) -> Result<usize, Error> {
+    let mut output = vec![0; LISTING_BYTES_MAX];
+    store.view(label(subject), &Path::root(), &mut output).map(|view| view.listing().len())
+}
+
+#[test]
+fn the_migration_of_the_worked_example() {
+    let mut store = written_before();
+    assert_eq!((viewed(&store, 9), viewed(&store, 8)), (refused(Refusal::NotWellFormed), Ok(51)));
+    let before = store.as_bytes().to_vec();
+    assert_eq!(store.migrate().map(Mask::bits), Ok(1 << 5));
+    let order = partition(&[&[(10, 8), (1, 9)], &[(10, 9)], &[(10, 9), (1, 9)], &[(10, 0), (1, 9)]]);
+    assert_eq!(part(store.as_bytes(), 9), order);
+    for other in (0..32).filter(|other| *other != 9) {
+        assert_eq!(part(store.as_bytes(), other), part(&before, other), "partition {other}");
+    }
+    assert_eq!((viewed(&store, 9), viewed(&store, 5)), (Ok(104), refused(Refusal::NotWellFormed)));
+    let after = store.as_bytes().to_vec();
+    let again = store.migrate().expect("a second migration");
+    assert_eq!((again.bits(), again.labels().collect::<Vec<_>>()), (544, vec![label(5), label(9)]));
+    assert!(store.as_bytes() == after, "a second migration changes a byte");
+}
+
+#[test]
+fn a_store_of_another_length_is_not_migrated() {
+    for length in [0, 1, PARTITION_BYTES, STORE_BYTES - 1, STORE_BYTES + 1, 2 * STORE_BYTES] {
+        let mut bytes = written_before().as_bytes().repeat(2);
+        bytes.truncate(length);
+        let before = bytes.clone();
+        assert_eq!(raw::migrate(&mut bytes), MigrationAnswer { number: 1, mask: 0 }, "{length}");
+        assert!(bytes == before, "the store of {length} bytes");
+        assert_eq!(Store::from(&mut bytes[..]).migrate(), refused(Refusal::StoreLength));
+    }
+    assert_eq!(raw::migrate(&mut [0; STORE_BYTES]), MigrationAnswer { number: 0, mask: 0 });
+    assert_eq!(raw::migrate(&mut [0xff; STORE_BYTES]), MigrationAnswer { number: 0, mask: u32::MAX });
+}
+
+/// A store file that was written before the path order changed, and what the reference in tools makes of it.
+const BEFORE: &[u8; STORE_BYTES] = include_bytes!("../../../tests/before-order.store");
+const AFTER: &[u8; STORE_BYTES] = include_bytes!("../../../tests/after-order.store");
+
+/// The partitions of that file that hold versions of one name at two levels.
+const MOVED: [u32; 4] = [9, 16, 24, 31];
+
+/// The labels of the lines of one step with this name, in the order in which a subject sees them.
+fn versions(store: &Store, subject: u32, name: u16) -> Vec<u32> {
+    let mut output = vec![0; LISTING_BYTES_MAX];
+    let view = store.view(label(subject), &Path::root(), &mut output).expect("a view");
+    let lines = view.lines().map(|line| line.expect("a line"));
+    lines.filter(|line| (line.depth, line.name) == (1, name)).map(|line| line.label.number()).collect()
+}
+
+#[test]
+fn a_store_file_of_before_is_migrated_and_served() {
+    let mut store = Store::from(Box::new(*BEFORE));
+    for subject in 0..32 {
+        let waits = MOVED.iter().any(|moved| label(subject).dominates(label(*moved)));
+        assert_eq!(viewed(&store, subject).is_ok(), !waits, "{subject} before the migration");
+        if waits {
+            assert_refused(store.as_mut_bytes(), subject, Call::View(&[], 64), 3);
+            assert_refused(store.as_mut_bytes(), subject, Call::Delete(P10), 3);
+        }
+    }
+    assert!(store.as_bytes() == BEFORE, "a refused call changes a byte");
+    assert_eq!(store.migrate().map(Mask::bits), Ok(0));
+    assert!(store.as_bytes() == AFTER, "the migrated store");
+    assert!((0..32).all(|subject| viewed(&store, subject).is_ok()));
+    assert_eq!(versions(&store, 9, 10), [8, 9, 0]);
+    let by_level: Vec<u32> = [24, 16, 8, 0].into_iter().flat_map(|level| level..level + 8).collect();
+    assert_eq!(versions(&store, 31, 50), by_level);
+    assert_eq!(store.migrate().map(|mask| mask.labels().map(Label::number).collect()), Ok(MOVED.to_vec()));
+    assert!(store.as_bytes() == AFTER, "a second migration changes a byte");
+    assert_eq!(store.insert(label(9), &path(&[(10, 0), (2, 9)]), Value::Group), Ok(0));
+    assert_eq!(store.delete(label(31), &path(&[(50, 0), (1, 31)])), Ok(1));
 }

@@ -13,8 +13,13 @@ step-good-spec =
     (λ c.
     let a = c .before .before .before .args in
     used-place (a .d) (a .before) (a .i) (stepAt (a .slot .now) (a .i)) (c .before .if1 .taken) (c .step-follows .ensures))  -- returns
-    (λ c. search needs)  -- slot-key-requires
+    (λ c. search needs)  -- step-name-requires
+    (λ c. search needs)  -- step-label-requires
+    (λ c. search needs)  -- wide-requires
+    (λ c. search needs)  -- add-result
+    -- returns-2
     (λ c.
-    let a = c .before .before .before .args in
-    unused-place (a .d) (a .before) (a .i) (stepAt (a .slot .now) (a .i)) (c .before .if1 .left) (c .slot-key .ensures))  -- returns-2
+    let name = c .before .before in
+    let a = name .before .before .before .args in
+    unused-place (a .d) (a .before) (a .i) (stepAt (a .slot .now) (a .i)) (name .before .if1 .left) (name .step-name .ensures) (c .before .step-label .ensures) (c .wide .ensures))
     )

@@ -215,7 +215,7 @@ fn tells_of_higher(call: &Call, store: &mut [u8], output: &mut [u8]) -> Answer {
 }
 
 /// Makes a call with the product's XML changed, as a writer with that fault would.
-fn with_xml(call: &Call, store: &mut [u8], output: &mut [u8], change: impl Fn(&str) -> String) -> Answer {
+pub fn with_xml(call: &Call, store: &mut [u8], output: &mut [u8], change: impl Fn(&str) -> String) -> Answer {
     if call.name != Name::ViewXml {
         return product(call, store, output);
     }

@@ -14,7 +14,7 @@ const ROOMY: usize = 262_144;
 /// An output that every view as XML fits too: 6,144 elements and the dossier tag.
 pub const XML_ROOMY: usize = 524_288;
 
-/// The calls, as often as each is made.
+/// The calls, as often as each is made; the migration is made beside them.
 const NAMES: [Name; 14] = [
     Name::View,
     Name::View,
@@ -37,6 +37,9 @@ type Aim = (u32, Vec<u8>);
 
 /// A random call for this store; where there is a label to prefer, inserts often take it.
 pub fn call(random: &mut Random, store: &[u8], preferred: Option<u8>) -> Call {
+    if random.percent(2) {
+        return migration();
+    }
     let name = random.pick(&NAMES);
     let (subject, path) = match name {
         Name::View | Name::ViewXml => view_aim(random, store),
@@ -44,6 +47,7 @@ pub fn call(random: &mut Random, store: &[u8], preferred: Option<u8>) -> Call {
         Name::Update | Name::Delete => write_aim(random, store),
         Name::Grade => grade_aim(random, store),
         Name::InsertXml => return intake(random, store, preferred),
+        Name::Migrate => return migration(),
     };
     let top = if name == Name::Grade { top(random, store, subject as u8, &path) } else { Vec::new() };
     let (kind, value) = valid_value(random);
@@ -56,6 +60,11 @@ pub fn call(random: &mut Random, store: &[u8], preferred: Option<u8>) -> Call {
         spoil(random, &mut call);
     }
     call
+}
+
+/// The migration.
+pub fn migration() -> Call {
+    plain(Name::Migrate, 0, Vec::new())
 }
 
 /// A call with nothing but its name, its subject and its path.

@@ -243,8 +243,7 @@ fn takes_minus_zero(call: &Call, store: &mut [u8], output: &mut [u8]) -> Answer 
 
 /// Answers 13 where siblings are not in path order.
 fn refuses_order(call: &Call, store: &mut [u8], output: &mut [u8]) -> Answer {
-    let key = |element: &Sent| (name_of(element), element.label.parse::<u32>().unwrap_or(0));
-    let is_ordered = |element: &Sent| element.inside.is_sorted_by_key(key);
+    let is_ordered = |element: &Sent| element.inside.is_sorted_by_key(Sent::place);
     with_number(call, store, output, |_, sent, _| (!sent.all().into_iter().all(is_ordered)).then_some(13))
 }
 

@@ -5,6 +5,7 @@ mod grade_faults;
 mod group_faults;
 mod intake_faults;
 mod lent;
+mod migration_faults;
 mod robust;
 mod sent;
 mod side;
@@ -19,10 +20,10 @@ use side::{Answer, Call, Name, Side};
 use std::process::ExitCode;
 
 /// How many calls of each name were answered with each number.
-type Tally = [[u64; 15]; 7];
+type Tally = [[u64; 15]; 8];
 
 /// The numbers that each call can answer, in the order of `Name`.
-const NUMBERS: [(Name, &[usize]); 7] = [
+const NUMBERS: [(Name, &[usize]); 8] = [
     (Name::View, &[0, 1, 2, 3, 4, 7, 10]),
     (Name::Insert, &[0, 1, 2, 3, 4, 5, 6, 7, 8, 9]),
     (Name::Update, &[0, 1, 2, 3, 4, 5, 6, 7]),
@@ -30,6 +31,7 @@ const NUMBERS: [(Name, &[usize]); 7] = [
     (Name::ViewXml, &[0, 1, 2, 3, 4, 7, 10]),
     (Name::Grade, &[0, 1, 2, 3, 4, 7, 11, 12]),
     (Name::InsertXml, &[0, 1, 2, 3, 4, 7, 8, 9, 13, 14]),
+    (Name::Migrate, &[0, 1]),
 ];
 
 /// The most groups that an insert can make.
@@ -65,6 +67,15 @@ struct Course {
     tally: Tally,
     /// How many inserts made no group, one, and so on.
     made: [u64; GROUPS_MAX + 1],
+    migrated: Migrated,
+}
+
+/// How many partitions were migrated, how many had their bit set, and how many were neither.
+#[derive(Clone, Copy, Default)]
+struct Migrated {
+    moved: u64,
+    left: u64,
+    same: u64,
 }
 
 /// The two stores of an episode.
@@ -115,17 +126,23 @@ fn compare(plan: &Plan) -> bool {
         print_difference(plan.seed, &difference);
         return false;
     }
-    let Course { calls, episodes, corruptions, texts, tally, made } = &course;
+    let Course { calls, episodes, corruptions, texts, tally, made, migrated } = &course;
+    let Migrated { moved, left, same } = migrated;
     println!("{calls} calls in {episodes} episodes, {corruptions} corruptions, {texts} texts tried, no difference");
     print_tally(tally);
     println!("inserts that made 0 to {GROUPS_MAX} groups: {made:?}");
-    plan.episode.is_some() || plan.robust || plan.calls == 0 || is_complete(&course.tally) && !made.contains(&0)
+    println!(
+        "partitions in migrations: {moved} brought into the new order, {left} with their bit set, {same} the same in both"
+    );
+    let is_partial = plan.episode.is_some() || plan.robust || plan.calls == 0;
+    is_partial || is_complete(&course.tally) && !made.contains(&0) && ![moved, left, same].contains(&&0)
 }
 
 /// Compares the product with each fault: whether every fault is found.
 fn find_faults(plan: &Plan) -> bool {
     let mut all = true;
     let faults = faults::FAULTS.into_iter().chain(group_faults::FAULTS).chain(intake_faults::FAULTS);
+    let faults = faults.chain(migration_faults::FAULTS);
     for (name, side) in faults {
         all &= is_found(name, |course| course.run(plan.seed, plan.calls, side));
     }
@@ -178,28 +195,56 @@ fn is_complete(tally: &Tally) -> bool {
 }
 
 impl Course {
-    /// The sweeps, then the episodes and the texts that are tried for robustness.
+    /// The sweeps, the first one with migrations too, then the episodes and the texts that are tried for robustness.
     fn sweep_and_run(&mut self, plan: &Plan) -> Result<(), Difference> {
         for sweep in 0..plan.sweeps {
-            self.sweep(plan.seed, sweep)?;
+            let start = stores::filled(&mut Random::part(!plan.seed, sweep), SLOTS + 1);
+            self.sweep(plan.seed, sweep, &start, generate::idle_delete)?;
+        }
+        if plan.sweeps > 0 {
+            let start = stores::filled_before(&mut Random::part(!plan.seed, u64::MAX), SLOTS + 1);
+            self.sweep(plan.seed, plan.sweeps - 1, &start, |_, _| generate::migration())?;
         }
         self.run(plan.seed, plan.calls, side::product)?;
         if plan.calls == 0 { Ok(()) } else { robust::run(self, plan.seed, side::product) }
     }
 
-    /// Corrupts each byte of a store alone and deletes what is not there: the answer is 3 or another refusal.
-    fn sweep(&mut self, seed: u64, sweep: u64) -> Result<(), Difference> {
+    /// Corrupts each byte of a store alone and makes a call: a delete of what is not there, which is refused, or the migration.
+    fn sweep(
+        &mut self,
+        seed: u64,
+        sweep: u64,
+        start: &[u8],
+        call: impl Fn(&mut Random, u8) -> Call,
+    ) -> Result<(), Difference> {
         let mut random = Random::part(!seed, sweep);
-        let start = stores::filled(&mut random, SLOTS + 1);
-        let mut stores = Stores { product: Lent::new(&start, random.below(16)), reference: start.clone() };
+        let mut stores = Stores { product: Lent::new(start, random.below(16)), reference: start.to_vec() };
         for (at, old) in start.iter().enumerate() {
             stores.set_byte(at, stores::other_byte(&mut random, *old));
             self.corruptions += 1;
-            let call = generate::idle_delete(&mut random, (at / PARTITION) as u8);
-            let answer = stores.both(&mut random, &call, side::product);
+            let call = call(&mut random, (at / PARTITION) as u8);
             let again = format!("--calls 0 --sweeps {}", sweep + 1);
-            self.count(&call, answer.map_err(|what| Difference { again, call: Box::new(call.clone()), what })?);
-            stores.set_byte(at, *old);
+            self.make(&mut random, &mut stores, &call, side::product, again)?;
+            stores.set(start);
+        }
+        Ok(())
+    }
+
+    /// Makes one call on both sides and counts it.
+    fn make(
+        &mut self,
+        random: &mut Random,
+        stores: &mut Stores,
+        call: &Call,
+        side: Side,
+        again: String,
+    ) -> Result<(), Difference> {
+        let before = if call.name == Name::Migrate { stores.reference.clone() } else { Vec::new() };
+        let answer = stores.both(random, call, side);
+        let answer = answer.map_err(|what| Difference { again, call: Box::new(call.clone()), what })?;
+        self.count(call, answer);
+        if (call.name, answer.number) == (Name::Migrate, 0) {
+            self.migrated.count(&before, &stores.reference, answer.mask);
         }
         Ok(())
     }
@@ -212,23 +257,24 @@ impl Course {
         Ok(())
     }
 
-    /// Runs one episode: a store to begin with, then calls with corruption between them.
+    /// Runs one episode: a store to begin with, then calls with corruption between them. A store written before is migrated
+    /// after some calls, or at once.
     fn episode(&mut self, seed: u64, episode: u64, side: Side) -> Result<(), Difference> {
         let mut random = Random::part(seed, episode);
-        let start = stores::begin(&mut random);
+        let is_old = random.percent(30);
+        let start = if is_old { stores::written_before(&mut random) } else { stores::begin(&mut random) };
         let mut stores = Stores { product: Lent::new(&start, random.below(16)), reference: start };
         let preferred = random.percent(50).then(|| random.below(32) as u8);
-        for _ in 0..50 + random.below(350) {
+        let migrated_at = is_old.then(|| random.pick(&[0, 0, 0, 5, 20]));
+        for turn in 0..50 + random.below(350) {
+            if migrated_at == Some(turn) {
+                self.make(&mut random, &mut stores, &generate::migration(), side, format!("--episode {episode}"))?;
+            }
             let saved = self.corrupt(&mut random, &mut stores);
             let turns = if saved.is_some() { 1 + random.below(6) } else { 1 };
             for _ in 0..turns {
                 let call = self.next_call(&mut random, &stores, preferred);
-                let answer = stores.both(&mut random, &call, side);
-                let answer = answer.map_err(|what| {
-                    let again = format!("--episode {episode}");
-                    Difference { again, call: Box::new(call.clone()), what }
-                })?;
-                self.count(&call, answer);
+                self.make(&mut random, &mut stores, &call, side, format!("--episode {episode}"))?;
             }
             if let (Some(saved), true) = (saved, random.percent(96)) {
                 stores.set(&saved);
@@ -274,6 +320,18 @@ impl Course {
     }
 }
 
+impl Migrated {
+    /// Counts the partitions of a migration by the store before it and after it and by its mask.
+    fn count(&mut self, before: &[u8], after: &[u8], mask: u32) {
+        let parts = before.as_chunks::<PARTITION>().0.iter().zip(after.as_chunks::<PARTITION>().0);
+        for (label, (one, two)) in parts.enumerate() {
+            self.moved += u64::from(one != two);
+            self.left += u64::from(mask >> label & 1);
+            self.same += u64::from(one == two && mask >> label & 1 == 0);
+        }
+    }
+}
+
 impl Stores {
     /// Lays these bytes into both stores.
     fn set(&mut self, bytes: &[u8]) {
@@ -289,6 +347,7 @@ impl Stores {
 
     /// Makes the call on both sides: the answer, or what is different.
     fn both(&mut self, random: &mut Random, call: &Call, side: Side) -> Result<Answer, String> {
+        let before = if call.name == Name::Migrate { self.product.bytes().to_vec() } else { Vec::new() };
         let fill = vec![random.byte(); if has_output(call.name) { call.output } else { 0 }];
         let mut lent = Lent::new(&fill, random.below(16));
         let mut output = fill;
@@ -302,10 +361,25 @@ impl Stores {
         if !(lent.guards_stand() && self.product.guards_stand()) {
             return Err("a byte outside the lent ones was written".to_string());
         }
-        if (call.name, answer.number) == (Name::InsertXml, 0) {
-            self.read_back(call, side)?;
+        match (call.name, answer.number) {
+            (Name::InsertXml, 0) => self.read_back(call, side)?,
+            (Name::Migrate, 0) => self.migrate_again(&before, answer.mask, side)?,
+            _ => {}
         }
         Ok(answer)
+    }
+
+    /// Whether a second migration changes no byte, and its mask has the first's bits and those of what the first changed.
+    fn migrate_again(&mut self, before: &[u8], mask: u32, side: Side) -> Result<(), String> {
+        let mut again = self.product.bytes().to_vec();
+        let answer = side(&generate::migration(), &mut again, &mut []);
+        let parts = before.as_chunks::<PARTITION>().0.iter().zip(again.as_chunks::<PARTITION>().0);
+        let changed =
+            (0..).zip(parts).filter(|(_, (one, two))| one != two).fold(0, |bits, (label, _)| bits | 1 << label);
+        if (answer.number, answer.mask) != (0, mask | changed) {
+            return Err(format!("a second migration answers {answer:?}, the first {mask}, it changed {changed}"));
+        }
+        same("store after a second migration", &again, self.product.bytes())
     }
 
     /// Whether the product's XML of a style that was taken in is the text, siblings in path order.

@@ -1,5 +1,6 @@
 //! Texts for XML intake as trees of what is written in them.
 use crate::side::{Call, Name};
+use std::cmp::Reverse;
 use std::fmt::Write;
 
 /// An element of a text, each part as it is written there, in form or not.
@@ -74,9 +75,14 @@ impl Sent {
 
     /// Brings siblings into path order.
     fn sort(&mut self) {
-        let number = |written: &str| written.parse::<u64>().ok();
-        self.inside.sort_by_key(|element| (number(&element.name), number(&element.label)));
+        self.inside.sort_by_key(Sent::place);
         self.inside.iter_mut().for_each(Sent::sort);
+    }
+
+    /// Its place among its siblings: by name, then by level from high to low, then by compartments.
+    pub fn place(&self) -> (u64, Reverse<u64>, u64) {
+        let [name, label] = [&self.name, &self.label].map(|written| written.parse::<u64>().unwrap_or(0));
+        (name, Reverse(label / 8), label % 8)
     }
 
     /// Does something with each element, each before those inside it.

@@ -11,9 +11,10 @@ pub enum Name {
     ViewXml,
     Grade,
     InsertXml,
+    Migrate,
 }
 
-/// A call with its inputs; the path of a grade is its base, that of an XML intake its parent.
+/// A call with its inputs; the path of a grade is its base, that of an XML intake its parent. The migration takes none.
 #[derive(Clone, Debug)]
 pub struct Call {
     pub name: Name,
@@ -27,13 +28,15 @@ pub struct Call {
     pub output: usize,
 }
 
-/// What a call answers: its number and its count, or a grade's number, step and remainder; the others are 0.
+/// What a call answers: its number and its count, a grade's number, step and remainder, or a migration's number and mask; the
+/// others are 0.
 #[derive(Clone, Copy, Default, PartialEq, Eq, Debug)]
 pub struct Answer {
     pub number: u32,
     pub count: u64,
     pub step: i64,
     pub remainder: u32,
+    pub mask: u32,
 }
 
 /// Carries a call out on a lent store and a lent output.
@@ -53,6 +56,10 @@ pub fn reference(call: &Call, store: &mut [u8], output: &mut [u8]) -> Answer {
             let reference::Grade { number, step, remainder } = reference::grade(store, *subject, path, top, *n);
             return Answer { number, step, remainder, ..Answer::default() };
         }
+        Name::Migrate => {
+            let reference::Migration { number, mask } = reference::migrate(store);
+            return Answer { number, mask, ..Answer::default() };
+        }
     };
     Answer { number, count, ..Answer::default() }
 }
@@ -70,6 +77,10 @@ pub fn product(call: &Call, store: &mut [u8], output: &mut [u8]) -> Answer {
         Name::Grade => {
             let dossier::GradeAnswer { number, step, remainder } = raw::grade(store, *subject, path, top, *n);
             return Answer { number, step, remainder, ..Answer::default() };
+        }
+        Name::Migrate => {
+            let dossier::MigrationAnswer { number, mask } = raw::migrate(store);
+            return Answer { number, mask, ..Answer::default() };
         }
     };
     Answer { number, count, ..Answer::default() }

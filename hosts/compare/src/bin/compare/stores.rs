@@ -41,12 +41,23 @@ fn with_beginnings(path: &Path) -> Vec<Path> {
     beginnings.filter(|beginning| beginning.label() == own).collect()
 }
 
-/// Well-formed contents for a partition, with this many elements.
+/// Another path with the same labels, its names taken from few, so that they alone do not tell paths apart.
+fn with_few_names(random: &mut Random, path: &Path) -> Path {
+    let few = |step: &Step| Step { name: random.pick(&[1, 1, 1, 256]), ..*step };
+    Path::new(&path.steps().iter().map(few).collect::<Vec<_>>())
+}
+
+/// Well-formed contents for a partition, with this many elements; often there are many versions of few names.
 fn well_formed_set(random: &mut Random, label: u8, count: usize) -> BTreeSet<Path> {
+    let has_versions = random.percent(40);
     let mut set = BTreeSet::new();
     while set.len() < count {
+        let mut path = valid_path(random, label);
+        if has_versions && random.percent(90) {
+            path = with_few_names(random, &path);
+        }
         let mut more = set.clone();
-        more.extend(with_beginnings(&valid_path(random, label)));
+        more.extend(with_beginnings(&path));
         if more.len() <= count {
             set = more;
         }
@@ -74,11 +85,23 @@ fn measure(random: &mut Random) -> i32 {
 
 /// Lays a random well-formed partition with this many elements into a store.
 pub fn put_well_formed(random: &mut Random, store: &mut [u8], label: u8, count: usize) {
+    let paths: Vec<Path> = well_formed_set(random, label, count).into_iter().collect();
+    put_elements(random, store, label, &paths);
+}
+
+/// Lays a random partition with this many elements, well formed in the order of before, into a store.
+pub fn put_well_formed_before(random: &mut Random, store: &mut [u8], label: u8, count: usize) {
+    let mut paths: Vec<Path> = well_formed_set(random, label, count).into_iter().collect();
+    paths.sort_by_key(|path| path.steps().iter().map(|step| (step.name, step.label)).collect::<Vec<_>>());
+    put_elements(random, store, label, &paths);
+}
+
+/// Lays a partition with elements at these paths, in this order, into a store.
+fn put_elements(random: &mut Random, store: &mut [u8], label: u8, paths: &[Path]) {
     let part = part_mut(store, label);
     part.fill(0);
-    part[0] = count as u8;
-    let set = well_formed_set(random, label, count);
-    for (slot, path) in part[HEAD..].as_chunks_mut::<SLOT>().0.iter_mut().zip(&set) {
+    part[0] = paths.len() as u8;
+    for (slot, path) in part[HEAD..].as_chunks_mut::<SLOT>().0.iter_mut().zip(paths) {
         let (kind, value) = valid_value(random);
         *slot = slot_of(path, kind as u8, &value);
     }
@@ -100,6 +123,32 @@ pub fn begin(random: &mut Random) -> Vec<u8> {
         18 => random.bytes(STORE),
         _ => wrong_length(random),
     }
+}
+
+/// A store written before the path order changed: with few elements, filled or full, often corrupted; some of its partitions
+/// may be in the order of now.
+pub fn written_before(random: &mut Random) -> Vec<u8> {
+    let bound = random.pick(&[3, 9, SLOTS + 1, 0]);
+    let mut store = filled_before(random, bound);
+    for _ in 0..random.pick(&[0, 0, 0, 0, 1, 2, 4, 8]) {
+        corrupt(random, &mut store);
+    }
+    store
+}
+
+/// A store in the order of before, but for some partitions in that of now, which hold fewer elements than this each; where it
+/// is 0, they are full or lack one.
+pub fn filled_before(random: &mut Random, bound: usize) -> Vec<u8> {
+    let mut store = vec![0; STORE];
+    for label in 0..LABELS {
+        let count = if bound == 0 { SLOTS - random.below(2) } else { random.below(bound) };
+        if random.percent(95) {
+            put_well_formed_before(random, &mut store, label, count);
+        } else {
+            put_well_formed(random, &mut store, label, count);
+        }
+    }
+    store
 }
 
 /// A store whose partitions hold fewer elements than this each.
@@ -136,7 +185,7 @@ fn wrong_length(random: &mut Random) -> Vec<u8> {
 /// Corrupts a store of the right length: single bytes, slots, or a whole partition, which may stay well formed.
 pub fn corrupt(random: &mut Random, store: &mut [u8]) {
     let label = random.below(LABELS.into()) as u8;
-    match random.below(12) {
+    match random.below(13) {
         0 => corrupt_byte(random, store),
         1..5 => corrupt_element(random, store, label),
         5 => corrupt_head(random, part_mut(store, label)),
@@ -150,6 +199,10 @@ pub fn corrupt(random: &mut Random, store: &mut [u8]) {
         10 => {
             let bytes = random.bytes(PARTITION);
             part_mut(store, label).copy_from_slice(&bytes);
+        }
+        11 => {
+            let count = random.below(SLOTS + 1);
+            put_well_formed_before(random, store, label, count);
         }
         _ => repeat_slot(random, store, label),
     }
