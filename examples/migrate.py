@@ -5,8 +5,9 @@
 
 It prints the labels of the partitions whose elements it brought into the order of now, and of those that it left as they were
 since they were not well formed in the order of before; a second run leaves those that the first one moved. The migrated store
-comes by a new file beside the old one, synced and renamed, so that a crash leaves one of them whole. A file of another length is
-refused by 1 and is not written.
+comes by a new file beside the old one, synced and renamed, so that a crash leaves one of them whole; it is its maker's, with the
+old one's mode. A file of another length is refused by 1 and is not written; a symbolic link is refused, since the new file
+would come in the link's place. Nobody else may write the file meanwhile.
 """
 import os
 import pathlib
@@ -20,12 +21,17 @@ from dossier import PARTITION_BYTES, Refused, Store  # noqa: E402
 
 
 def save(file, store):
-    """Puts these bytes in the file's place, with its mode."""
+    """Puts these bytes in the file's place, with its mode. Where that fails, the new file goes."""
     with tempfile.NamedTemporaryFile(dir=file.parent, delete=False) as new:
-        new.write(store)
-        shutil.copymode(file, new.name)
-        os.fsync(new.fileno())
-    os.replace(new.name, file)
+        try:
+            new.write(store)
+            shutil.copymode(file, new.name)
+            new.flush()
+            os.fsync(new.fileno())
+            os.replace(new.name, file)
+        except OSError:
+            os.unlink(new.name)
+            raise
     folder = os.open(file.parent, os.O_RDONLY)
     os.fsync(folder)
     os.close(folder)
@@ -39,7 +45,11 @@ def changed(before, after):
 
 def main():
     """Migrates the file and says what was done."""
+    if len(sys.argv) != 2:
+        sys.exit("usage: migrate.py FILE")
     file = pathlib.Path(sys.argv[1]).absolute()
+    if file.is_symlink():
+        sys.exit(f"{sys.argv[1]} is a symbolic link")
     before = file.read_bytes()
     store = Store(bytearray(before))
     try:

@@ -781,6 +781,8 @@ class Migration(CallTest):
         self.assertEqual(Mask(0).labels(), [])
         self.assertEqual(Mask(2**31 + 1).labels(), [label(0), label(31)])
         self.assertEqual(Mask(2**32 - 1).labels(), [label(number) for number in range(32)])
+        self.assertEqual([bool(Mask(bits)) for bits in (0, 1, 2**31)], [False, True, True])
+        self.assertEqual([Mask(2**31 + 1).has(label(number)) for number in (0, 1, 30, 31)], [True, False, False, True])
 
 
 class Wrapper(CallTest):

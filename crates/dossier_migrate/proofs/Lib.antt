@@ -1,2 +1,2 @@
 -- The laws of this crate.
-pub mod Passing
+pub mod Progress

@@ -213,6 +213,15 @@ mask-twice s z n l =
 
 -- ---- what an observer gets
 
+-- the number comes from the length alone
+pub own-number : (s t : List ℕ) → length s ≡ length t → migration s .number ≡ migration t .number
+own-number s t e =
+    decide (eqb (length s) storeSize)
+    (λ (h : T (eqb (length s) storeSize)).
+    let z : length s ≡ storeSize = eqb-yes h in
+    ap (λ (m : Migration). m .number) (migration-done s z) ∙ sym (ap (λ (m : Migration). m .number) (migration-done t (sym e ∙ z))))
+    (λ (h : T (not (eqb (length s) storeSize))). ap (λ (m : Migration). m .number) (refused-length s h ∙ sym (refused-length t (rw e at h))))
+
 -- a partition's result and its bit come from its own bytes alone
 module _ (s t : List ℕ) (e : length s ≡ length t) (n : ℕ) (l : T (isLabel n)) (p : partition n s ≡ partition n t) where
   pub own-partition : partition n (migratedStore s) ≡ partition n (migratedStore t)
@@ -244,6 +253,7 @@ alike-migrated o s t a =
 pub migrated-noninterference : MigratedNoninterference
 migrated-noninterference o es s t h a =
     record {
+      number = own-number s t (a .lengths);
       bits = λ n d. own-bit s t (a .lengths) n (dominates-lower o n d) (a .partitions n d);
       run = noninterference o es (migratedStore s) (migratedStore t) h (alike-migrated o s t a);
     }

@@ -4,9 +4,9 @@ use mathlib.Core.Path.{_≡_, refl, sym, ap, ap₂, _∙_, subst}
 use mathlib.Core.Logic.{_⊎_, inl, inr}
 use mathlib.Core.Bool.{Bool, false, not, cond, _&&_, _||_}
 use mathlib.Core.List.{List, [], _∷_, _++_, List·Memᴰ·head, List·Memᴰ·tail, List·Memᴰ·cases-cons, List·Memᴰ·not-nil, List·Memᴰ·append-cases}
-use Prim.Native.Nat.{ℕ, suc, _≤_, _<_}
+use Prim.Native.Nat.{ℕ, zero, suc, _≤_, _<_}
 use native.Mathlib.Omega.{arith}
-use lib.ListN.{length}
+use lib.ListN.{length, drop}
 use lib.Dec.{T, eqb, ltb, eqb-refl}
 use mir.Facts.{not-T, no-ltb, or-yes, or-no, eqb-yes, yes-eqb, ltb-yes, ltb-no, yes-ltb}
 use Rattle.model.specs.Lists.{keep, _∈_}
@@ -100,6 +100,12 @@ module _ {A : Type 0} (rank : A → List ℕ) where
       both (isBefore rank x y) (ascending rank (y ∷ l))
       (and-l (isBefore rank x y) (ahead rank x l) (and-l (ahead rank x (y ∷ l)) (sorted rank (y ∷ l)) t))
       (sorted-ascending (y ∷ l) (and-r (ahead rank x (y ∷ l)) (sorted rank (y ∷ l)) t))
+
+  -- the members behind the first k are sorted too
+  pub sorted-drop : (k : ℕ) (l : List A) → T (sorted rank l) → T (sorted rank (drop k l))
+  sorted-drop zero l t = t
+  sorted-drop (suc k) [] t = t
+  sorted-drop (suc k) (x ∷ l) t = sorted-drop k l (and-r (ahead rank x l) (sorted rank l) t)
 
   pub sorted-keep : (k : A → Bool) (l : List A) → T (sorted rank l) → T (sorted rank (keep k l))
   sorted-keep k [] t = tt

@@ -55,9 +55,10 @@ migration s =
 
 -- ---- demand 3 for a list that begins with the migration
 
--- the mask's bits of the observer's labels are those of every alike store, and what he gets of the events behind the migration is what
--- the model gives that is opened on the alike store, migrated too
+-- the number and the mask's bits of the observer's labels are those of every alike store, and what he gets of the events behind the
+-- migration is what the model gives that is opened on the alike store, migrated too
 pub record MigratedUnaffected (o : ℕ) (es : List Event) (s t : List ℕ) : Type 0 where
+  pub number : migration s .number ≡ migration t .number
   pub bits : (n : ℕ) → T (dominates o n) → bit n (migration s .mask) ≡ bit n (migration t .mask)
   pub run : Unaffected o es (migratedStore s) (openModel (migratedStore t))
 

@@ -86,7 +86,7 @@ pub fn shift_down(s: &mut [u8], k: usize)
 }
 
 // Moves the bytes down by k places: the last k stay.
-fn move_down(s: &mut [u8], k: usize)
+pub fn move_down(s: &mut [u8], k: usize)
     requires { ⌜ k ≤ length (now s) ⌝ }
     ensures { λ _. ⌜ now (s .exit) ≡ drop k (now (s .entry)) ++ drop (length (now (s .entry)) - k) (now (s .entry)) ⌝ }
 {

@@ -11,7 +11,7 @@ use native.Mathlib.Decide.{decLe}
 use native.Mathlib.Numerals.{add-one}
 use lib.Dec.{T, eqb, leb, ltb}
 use mir.Facts.{T-not, leb-yes, leb-no}
-use Rattle.model.specs.Lists.{any, keep, range, _∈_}
+use Rattle.model.specs.Lists.{all, any, keep, range, _∈_}
 use Rattle.model.specs.Path.{Step, samePath, isPrefix, stepsOf, key}
 use Rattle.model.specs.Element.{Element, rank, validElement, contains, remove}
 use Rattle.model.specs.Slot.{slotSize, depth, readPath, readSlot}
@@ -63,15 +63,22 @@ facts {b} f = well-formed key (f .label) b (f .is)
 pub formed-sorted : {b : List ℕ} → Formed b → T (sorted rank (readPartition b))
 formed-sorted {b} f = ascending-sorted rank (readPartition b) (facts f .ascends)
 
--- each of its slots holds a valid element
-pub formed-valid : {b : List ℕ} (f : Formed b) (i : ℕ) → i < count b → T (validElement (f .label) (elementAt b i))
-formed-valid {b} f i h =
-    all-range (elementAt b) (validElement (f .label)) 0 (count b) i (rw (elements-range b) at (facts f .valid)) (omega arith) (omega arith)
+-- of valid elements each slot holds one
+module _ (n : ℕ) (b : List ℕ) (v : T (all (validElement n) (readPartition b))) (i : ℕ) (h : i < count b) where
+  valid-at : T (validElement n (elementAt b i))
+  valid-at = all-range (elementAt b) (validElement n) 0 (count b) i (rw (elements-range b) at v) (omega arith) (omega arith)
 
--- so it can be read
+  -- so it can be read
+  pub valid-slot : depth (slotAt b i) ≤ 6
+  unfolding readSlot
+  valid-slot = rw (length-path (slotAt b i)) at (valid-fits n (elementAt b i) valid-at .steps)
+
+-- so it is in a well-formed partition
+pub formed-valid : {b : List ℕ} (f : Formed b) (i : ℕ) → i < count b → T (validElement (f .label) (elementAt b i))
+formed-valid {b} f i h = valid-at (f .label) b (facts f .valid) i h
+
 pub formed-slot : {b : List ℕ} (f : Formed b) (i : ℕ) → i < count b → depth (slotAt b i) ≤ 6
-unfolding readSlot
-formed-slot {b} f i h = rw (length-path (slotAt b i)) at (valid-fits (f .label) (elementAt b i) (formed-valid f i h) .steps)
+formed-slot {b} f i h = valid-slot (f .label) b (facts f .valid) i h
 
 -- so can what a read of slot i gives
 pub formed-readable : {b x : List ℕ} (f : Formed b) {i c : ℕ} → (c ≡ count b) × (c < 256) → i < c → (x ≡ slotAt b i) × (length x ≡ slotSize) → Readable x

@@ -9,7 +9,7 @@ ghost use Rattle.model.specs.Slot.{slotSize, depth, readPath};
 ghost use Rattle.model.specs.Partition.{partitionSize, count, slotStart, layout, slotAt, slots, readPartition, wellFormedBy, wellFormed};
 ghost use Rattle.model.specs.Element.{remove};
 ghost use Rattle.model.specs.Call.{extending, added};
-ghost use Rattle.path.specs.Steps.{keyOf};
+ghost use Rattle.path.specs.Steps.{keyBy};
 ghost use Rattle.path.specs.Common.{common};
 ghost use Rattle.slot.specs.Slot.{Readable};
 ghost use Rattle.partition.specs.Linked.{mayFollow, goodSlot, goodSlots, pathBefore};
@@ -57,7 +57,7 @@ fn parent_ends_in(slot: &[u8], n: u8) -> bool
 // Whether b's path may follow a's in partition n, in the order of before 7/14 or in path order.
 fn may_follow(a: &[u8], b: &[u8], n: u8, former: bool) -> bool
     requires { ⌜ Readable (now a) × Readable (now b) ⌝ }
-    ensures { λ r. ⌜ r ≡ mayFollow (keyOf former) n (readPath (now (a .entry))) (readPath (now (b .entry))) ⌝ }
+    ensures { λ r. ⌜ r ≡ mayFollow (keyBy former) n (readPath (now (a .entry))) (readPath (now (b .entry))) ⌝ }
 {
     let m = slot::compare_by(a, b, former);
     if !m.before {
@@ -73,7 +73,7 @@ fn may_follow(a: &[u8], b: &[u8], n: u8, former: bool) -> bool
 fn slot_good(part: &[u8], i: usize, n: u8, former: bool) -> bool
     requires { ⌜ (length (now part) ≡ partitionSize) × (i < 32) ⌝ }
     requires { ⌜ ((k : ℕ) → k + 1 ≡ i → depth (slotAt (now part) k) ≤ 6) ⌝ }
-    ensures { λ r. ⌜ r ≡ goodSlot (keyOf former) n (pathBefore (now (part .entry)) i) (slotAt (now (part .entry)) i) ⌝ }
+    ensures { λ r. ⌜ r ≡ goodSlot (keyBy former) n (pathBefore (now (part .entry)) i) (slotAt (now (part .entry)) i) ⌝ }
 {
     let s = slot_at(part, i);
     if !slot_valid::is_valid(s, n) {
@@ -88,7 +88,7 @@ fn slot_good(part: &[u8], i: usize, n: u8, former: bool) -> bool
 // Whether the first c slots are valid, each following the one before, in the order of before 7/14 or in path order.
 fn slots_good(part: &[u8], c: usize, n: u8, former: bool) -> bool
     requires { ⌜ (length (now part) ≡ partitionSize) × (c ≡ count (now part)) × (c ≤ 32) ⌝ }
-    ensures { λ r. ⌜ r ≡ goodSlots (keyOf former) n [] (slots (now (part .entry))) ⌝ }
+    ensures { λ r. ⌜ r ≡ goodSlots (keyBy former) n [] (slots (now (part .entry))) ⌝ }
 {
     let mut i: usize = 0;
     while i < c {
@@ -103,7 +103,7 @@ fn slots_good(part: &[u8], c: usize, n: u8, former: bool) -> bool
 // Whether a partition is well formed for label n, in the order of before 7/14 or in path order.
 fn is_formed_by(part: &[u8], n: u8, former: bool) -> bool
     requires { ⌜ (length (now part) ≡ partitionSize) × (n < 32) ⌝ }
-    ensures { λ r. ⌜ r ≡ wellFormedBy (keyOf former) n (now (part .entry)) ⌝ }
+    ensures { λ r. ⌜ r ≡ wellFormedBy (keyBy former) n (now (part .entry)) ⌝ }
 {
     let c = count(part);
     if 32 < c {

@@ -21,7 +21,7 @@ use Rattle.model.proofs.Lists.{length-range, getD-front, drop-next}
 use Rattle.model.proofs.Dominance.{dominates-upper, bottom-label}
 use Rattle.model.proofs.Paths.{Keyed, key-keyed, former-keyed}
 use Rattle.model.proofs.Walks.{rest, rest-more, rest-end}
-use Rattle.path.specs.Steps.{stepWith, stepOf, lentStep, mayFollow, allFollow, keyOf, wordFrom, inDigits, KeyOf}
+use Rattle.path.specs.Steps.{stepWith, stepOf, lentStep, mayFollow, allFollow, keyBy, wordFrom, inDigits, KeyOf}
 
 -- ---- a lent path as a range
 
@@ -200,16 +200,16 @@ pub word-before : {k : Step → List ℕ} → Keyed k → (a b : Step) {v w : �
 word-before {k} good a b x y = lists-before 0 (k a) (k b) (good .width a b) (x .digits) (y .digits) ∙ ap₂ ltb (sym (x .word)) (sym (y .word))
 
 -- the keys of both orders are keys
-pub keyed : (former : Bool) → Keyed (keyOf former)
+pub keyed : (former : Bool) → Keyed (keyBy former)
 keyed true = former-keyed
 keyed false = key-keyed
 
 -- the key of a step whose name and label were read, in the order that is asked for
 module _ {former : Bool} (a : Step) {n l w : ℕ} (name : n ≡ a .name) (label : l ≡ a .label) where
-  pub former-key-of : former ≡ true → KeyOf formerKey (stepWith n l) w → KeyOf (keyOf former) a w
+  pub former-key-of : former ≡ true → KeyOf formerKey (stepWith n l) w → KeyOf (keyBy former) a w
   former-key-of e x = rw (e, ← name, ← label) x
 
-  pub path-key-of : former ≡ false → KeyOf key (stepWith n l) w → KeyOf (keyOf former) a w
+  pub path-key-of : former ≡ false → KeyOf key (stepWith n l) w → KeyOf (keyBy former) a w
   path-key-of e x = rw (e, ← name, ← label) x
 
 -- two steps whose names were read: they differ where the names do

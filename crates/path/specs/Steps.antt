@@ -33,9 +33,9 @@ allFollow l (a ∷ p) = mayFollow l a && allFollow (a .label) p
 -- ---- keys as numbers
 
 -- the key of an order: that of before 7/14, or that of path order
-abbrev pub keyOf : Bool → Step → List ℕ
-keyOf true = formerKey
-keyOf false = key
+abbrev pub keyBy : Bool → Step → List ℕ
+keyBy true = formerKey
+keyBy false = key
 
 -- numbers read as digits of base 256 behind the number w, the highest first
 abbrev pub wordFrom : ℕ → List ℕ → ℕ

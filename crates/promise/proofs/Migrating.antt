@@ -17,6 +17,7 @@ migrated-one d e = (d .told-is ∙ sym (e .told-is), d .store-is ∙ sym (e .sto
 pub code-migrated-noninterference : CodeMigratedNoninterference
 code-migrated-noninterference u acts s s₁ s' t k m r h a =
     record {
+      number = ap (λ (x : Migration). x .number) (m .told-is) ∙ migrated-noninterference u (events acts) s t h a .number;
       bits = λ n d. ap (λ (x : Migration). bit n (x .mask)) (m .told-is) ∙ migrated-noninterference u (events acts) s t h a .bits n d;
       run =
           code-noninterference u acts s₁ s' (migratedStore t) r h

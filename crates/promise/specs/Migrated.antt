@@ -16,6 +16,7 @@ pub record Migrated (store : List ℕ) (told : Migration) (store' : List ℕ) : 
 
 -- what the observer u gets of a migration that told k, and of the actions behind it, which left the store s'
 pub record MigratedUndisturbed (u : ℕ) (acts : List Action) (k : Migration) (s' t : List ℕ) : Type 0 where
+  pub number : k .number ≡ migration t .number
   pub bits : (n : ℕ) → T (dominates u n) → bit n (k .mask) ≡ bit n (migration t .mask)
   pub run : Undisturbed u acts s' (openModel (migratedStore t))
 

@@ -5,7 +5,7 @@ ghost use lib.ListN.{length};
 ghost use Rattle.model.specs.Sets.{precedes};
 ghost use Rattle.model.specs.Path.{sameStep, stepsOf, key};
 ghost use Rattle.model.specs.Slot.{slotSize, depth, stepAt, valueLength, readPath, readContent};
-ghost use Rattle.path.specs.Steps.{lentStep, keyOf, KeyOf};
+ghost use Rattle.path.specs.Steps.{lentStep, keyBy, KeyOf};
 ghost use Rattle.path.specs.Common.{ComparedBy, Compared};
 ghost use Rattle.slot.specs.Slot.{Readable};
 
@@ -67,7 +67,7 @@ pub fn value_of(slot: &[u8]) -> &[u8]
 // The key of step i of a slot's path, in the order of before 7/14 or in path order.
 fn slot_key(slot: &[u8], i: usize, former: bool) -> u32
     requires { ⌜ (length (now slot) ≡ slotSize) × (i < 6) ⌝ }
-    ensures { λ r. ⌜ KeyOf (keyOf former) (stepAt (now (slot .entry)) i) r ⌝ }
+    ensures { λ r. ⌜ KeyOf (keyBy former) (stepAt (now (slot .entry)) i) r ⌝ }
 {
     let name = step_name(slot, i);
     let label = step_label(slot, i);
@@ -91,7 +91,7 @@ fn same_step(a: &[u8], b: &[u8], i: usize) -> bool
 // Whether step i of a slot's path comes before step i of another's, in the order of before 7/14 or in path order.
 fn step_before(a: &[u8], b: &[u8], i: usize, former: bool) -> bool
     requires { ⌜ (length (now a) ≡ slotSize) × (length (now b) ≡ slotSize) × (i < 6) ⌝ }
-    ensures { λ r. ⌜ r ≡ precedes (keyOf former (stepAt (now (a .entry)) i)) (keyOf former (stepAt (now (b .entry)) i)) ⌝ }
+    ensures { λ r. ⌜ r ≡ precedes (keyBy former (stepAt (now (a .entry)) i)) (keyBy former (stepAt (now (b .entry)) i)) ⌝ }
 {
     slot_key(a, i, former) < slot_key(b, i, former)
 }
@@ -125,7 +125,7 @@ fn least(x: usize, y: usize) -> usize
 // The paths of two slots compared in one pass, in the order of before 7/14 or in path order.
 pub fn compare_by(a: &[u8], b: &[u8], former: bool) -> Meeting
     requires { ⌜ Readable (now a) × Readable (now b) ⌝ }
-    ensures { λ r. ⌜ ComparedBy (keyOf former) (readPath (now (a .entry))) (readPath (now (b .entry))) (r .shared) (r .before) ⌝ }
+    ensures { λ r. ⌜ ComparedBy (keyBy former) (readPath (now (a .entry))) (readPath (now (b .entry))) (r .shared) (r .before) ⌝ }
 {
     let x = depth(a);
     let y = depth(b);

@@ -4,7 +4,7 @@ use mathlib.Core.List.{List, [], _∷_, _++_, append-assoc, append-nil}
 use Prim.Native.Nat.{ℕ, _+_, _-_, _*_, _≤_, _<_}
 use native.Mathlib.Omega.{arith}
 use borrow.Rule.Slice.PartMut.{putMid, mid-len, post-is}
-use lib.ListN.{length, take, drop, replicate, length-append, length-drop, length-replicate, drop-of-length-le, take-append-drop}
+use lib.ListN.{length, take, drop, replicate, length-append, length-drop, drop-of-length-le, take-append-drop}
 use lib.Seq.{take-all, take-at, drop-at, drop-drop, length-take-le}
 use Rattle.model.specs.Lists.{gather, between}
 use Rattle.model.specs.Sets.{put, sorted, sort}
@@ -35,7 +35,7 @@ module _ (s : List ℕ) (h : slotSize ≤ length s) where
   first-size = length-take-le slotSize s h
 
   pub turned : (o z w : List ℕ) {y : List ℕ} → length o ≡ slotSize → z ≡ take (length (take slotSize s)) (take slotSize s) ++ drop (length (take slotSize s)) o
-      → w ≡ drop slotSize s ++ replicate slotSize 0
+      → w ≡ drop slotSize s ++ drop (length s - slotSize) s
       → y ≡ take (length z) z ++ drop (length z) (take (length w - (length w - slotSize)) (drop (length w - slotSize) w))
       → putMid (length w - slotSize) (length w - (length w - slotSize)) w y ≡ drop slotSize s ++ take slotSize s
   turned o z w {y} lo ez ew ey =
@@ -43,13 +43,13 @@ module _ (s : List ℕ) (h : slotSize ≤ length s) where
       let lz : length z ≡ slotSize = ap length kept ∙ first-size in
       let ld : length (drop slotSize s) ≡ length s - slotSize = length-drop slotSize s in
       let lw : length w ≡ length s =
-      ap length ew ∙ length-append (drop slotSize s) (replicate slotSize 0) ∙ omega (arith, length-replicate {A = ℕ} slotSize 0) in
+      ap length ew ∙ length-append (drop slotSize s) (drop (length s - slotSize) s) ∙ omega (arith, length-drop (length s - slotSize) s) in
       let at : length w - slotSize ≡ length (drop slotSize s) = omega arith in
       let last : length (take (length w - (length w - slotSize)) (drop (length w - slotSize) w)) ≡ slotSize =
       mid-len (length w - slotSize) (length w) w (omega arith) ∙ omega arith in
       let here : y ≡ take slotSize s = copied z (take (length w - (length w - slotSize)) (drop (length w - slotSize) w)) lz last ey ∙ kept in
       let front : take (length w - slotSize) w ≡ drop slotSize s =
-      ap₂ (λ (m : ℕ) (l : List ℕ). take m l) at ew ∙ take-at (drop slotSize s) (replicate slotSize 0) (length (drop slotSize s)) refl in
+      ap₂ (λ (m : ℕ) (l : List ℕ). take m l) at ew ∙ take-at (drop slotSize s) (drop (length s - slotSize) s) (length (drop slotSize s)) refl in
       let none : drop (length w) w ≡ [] = drop-of-length-le w {i = length w} (omega arith) in
       ap₂ (λ (x u : List ℕ). x ++ (y ++ u)) front (post-is (length w - slotSize) (length w) w (omega arith) ∙ none)
       ∙ ap (λ (u : List ℕ). drop slotSize s ++ u) (append-nil y ∙ here)
@@ -131,8 +131,8 @@ module _ {b : List ℕ} (f : Laid b) (i to : ℕ) (h : i < to) (k : to ≤ count
       length-append (one i to es h) (others i to es h)
       ∙ omega (arith, length-one i to es h (omega (arith, few)), length-others i to es h few)
 
-  length-between : length (gather slotBytes (one i to es h ++ others i to es h)) ≡ slotStart to - slotStart i
-  length-between = length-slots (one i to es h ++ others i to es h) ∙ omega (arith, whole)
+  length-part : length (gather slotBytes (one i to es h ++ others i to es h)) ≡ slotStart to - slotStart i
+  length-part = length-slots (one i to es h ++ others i to es h) ∙ omega (arith, whole)
 
   bytes-cut : b ≡ before ++ (gather slotBytes (one i to es h ++ others i to es h) ++ after)
   bytes-cut = f .bytes ∙ ap layout (cut i to es h) ∙ laid-out (one i to es h ++ others i to es h) whole
@@ -142,7 +142,7 @@ module _ {b : List ℕ} (f : Laid b) (i to : ℕ) (h : i < to) (k : to ≤ count
   part-is =
       ap (λ (l : List ℕ). take (slotStart to - slotStart i) (drop (slotStart i) l)) bytes-cut
       ∙ ap (take (slotStart to - slotStart i)) (drop-at before _ (slotStart i) length-before)
-      ∙ take-at (gather slotBytes (one i to es h ++ others i to es h)) after (slotStart to - slotStart i) length-between
+      ∙ take-at (gather slotBytes (one i to es h ++ others i to es h)) after (slotStart to - slotStart i) length-part
       ∙ gather-append slotBytes (one i to es h) (others i to es h)
 
   first-slot : length (gather slotBytes (one i to es h)) ≡ slotSize
@@ -157,7 +157,7 @@ module _ {b : List ℕ} (f : Laid b) (i to : ℕ) (h : i < to) (k : to ≤ count
       ap (λ (m : ℕ). drop m b) (sym n)
       ∙ sym (drop-drop (slotStart to - slotStart i) (slotStart i) b)
       ∙ ap (drop (slotStart to - slotStart i)) (ap (drop (slotStart i)) bytes-cut ∙ drop-at before _ (slotStart i) length-before)
-      ∙ drop-at (gather slotBytes (one i to es h ++ others i to es h)) after (slotStart to - slotStart i) length-between
+      ∙ drop-at (gather slotBytes (one i to es h ++ others i to es h)) after (slotStart to - slotStart i) length-part
 
   -- its first slot moved behind the others: so is the element
   pub moved-bytes : {y : List ℕ} → let x : List ℕ = take (slotStart to - slotStart i) (drop (slotStart i) b) in y ≡ drop slotSize x ++ take slotSize x

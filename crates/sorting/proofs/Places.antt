@@ -2,7 +2,7 @@
 use mathlib.Core.Path.{_≡_, sym, ap, ap₂, _∙_}
 use mathlib.Core.Bool.{Bool, true, false, not, cond}
 use mathlib.Core.List.{List}
-use Prim.Native.Nat.{ℕ, zero, suc, _+_, _-_, _≤_, _<_}
+use Prim.Native.Nat.{ℕ, zero, suc, _+_, _-_, _≤_, _<_, min}
 use native.Mathlib.Omega.{arith}
 use native.Mathlib.Decide.{decLe}
 use borrow.Author.Tests.{not-true, not-false}
@@ -12,22 +12,20 @@ use mir.Facts.{T-not}
 use Rattle.model.specs.Lists.{range}
 use Rattle.model.specs.Sets.{sorted, ahead}
 use Rattle.model.specs.Path.{Step, pathRank}
-use Rattle.model.specs.Element.{Element, rank, validElement}
-use Rattle.model.specs.Slot.{slotSize, depth, readPath, readSlot}
+use Rattle.model.specs.Element.{Element, rank}
+use Rattle.model.specs.Slot.{slotSize, readPath, readSlot}
 use Rattle.model.specs.Partition.{partitionSize, count, slotAt, readPartition}
 use Rattle.model.proofs.Bools.{and-l, and-r, decide, is-true, is-false}
 use Rattle.model.proofs.Members.{all-in}
 use Rattle.model.proofs.Order.{precedes-trans}
-use Rattle.model.proofs.Slots.{valid-fits}
 use Rattle.model.proofs.Partitions.{length-layout}
-use Rattle.model.proofs.Walks.{rest, all-range, in-range}
+use Rattle.model.proofs.Walks.{rest, in-range}
 use Rattle.path.specs.Common.{isBefore, Compared}
 use Rattle.slot.specs.Slot.{Readable}
-use Rattle.slot.proofs.Reading.{length-path}
 use Rattle.partition.specs.Place.{placeOf}
 use Rattle.partition.proofs.Placing.{place-within}
-use Rattle.partition.proofs.Finding.{elementAt, elements-range, elements-from, length-read}
-use Rattle.sorting.specs.Sorting.{Laid, SortedBehind, placeBehind, Back}
+use Rattle.partition.proofs.Finding.{elementAt, valid-slot, elements-from, length-read}
+use Rattle.sorting.specs.Sorting.{Laid, SortedBehind, placeBehind}
 
 -- ---- slots
 
@@ -36,15 +34,8 @@ module _ {b : List ℕ} (f : Laid b) where
   laid-size = ap length (f .bytes) ∙ length-layout (readPartition b)
 
   -- each used slot can be read
-  laid-deep : (i : ℕ) → i < count b → depth (slotAt b i) ≤ 6
-  unfolding readSlot
-  laid-deep i h =
-      let v : T (validElement (f .label) (elementAt b i)) =
-      all-range (elementAt b) (validElement (f .label)) 0 (count b) i (rw (elements-range b) at (f .valid)) (omega arith) (omega arith) in
-      rw (length-path (slotAt b i)) at (valid-fits (f .label) (elementAt b i) v .steps)
-
   pub laid-readable : {x : List ℕ} {i : ℕ} → i < count b → (x ≡ slotAt b i) × (length x ≡ slotSize) → Readable x
-  laid-readable {i = i} h d = record { size = d .1; steps = rw (d .0) (laid-deep i h) }
+  laid-readable {i = i} h d = record { size = d .1; steps = rw (d .0) (valid-slot (f .label) b (f .valid) i h) }
 
 -- two slots compared
 pub compared-at : (b : List ℕ) (i j : ℕ) {x y : List ℕ} → (x ≡ slotAt b i) × (length x ≡ slotSize) → (y ≡ slotAt b j) × (length y ≡ slotSize)
@@ -74,9 +65,9 @@ module _ (g : ℕ → Element) (q : List Step) where
       (λ (y : T (not (isBefore (g i .path) q))). omega (arith, here i n y))
 
   -- of sorted elements one that comes before the path stands before its place
-  place-past : (n i k : ℕ) → T (sorted rank (range g i n)) → i ≤ k → k < i + n → T (isBefore (g k .path) q) → k < i + placeOf q (range g i n)
-  place-past zero i k s h l t = absurd (omega arith)
-  place-past (suc n) i k s h l t =
+  stands-before : (n i k : ℕ) → T (sorted rank (range g i n)) → i ≤ k → k < i + n → T (isBefore (g k .path) q) → k < i + placeOf q (range g i n)
+  stands-before zero i k s h l t = absurd (omega arith)
+  stands-before (suc n) i k s h l t =
       elim (decLe k i) [
         | yes e ↦ let z : k ≡ i = omega arith in omega (arith, later i n (rw z at t))
         | no e ↦
@@ -84,7 +75,7 @@ module _ (g : ℕ → Element) (q : List Step) where
             let a : T (isBefore (g i .path) (g k .path)) =
             all-in (λ d. isBefore (g i .path) (d .path)) (range g (suc i) n) m (in-range g (suc i) n k (omega arith) (omega arith)) in
             let y : T (isBefore (g i .path) q) = precedes-trans (pathRank (g i .path)) (pathRank (g k .path)) (pathRank q) a t in
-            omega (arith, later i n y, place-past n (suc i) k (and-r (ahead rank (g i) (range g (suc i) n)) (sorted rank (range g (suc i) n)) s) (omega arith) (omega arith) t)
+            omega (arith, later i n y, stands-before n (suc i) k (and-r (ahead rank (g i) (range g (suc i) n)) (sorted rank (range g (suc i) n)) s) (omega arith) (omega arith) t)
       ]
 
 -- ---- and of slot i among those behind it
@@ -98,7 +89,7 @@ module _ {b : List ℕ} {i : ℕ} (f : SortedBehind b i) where
   unfolding readSlot
   slot-past {k} l m e t =
       let p : k < i + 1 + placeOf (readPath (slotAt b i)) (rest (elementAt b) (count b) (i + 1)) =
-      place-past (elementAt b) (readPath (slotAt b i)) (count b - (i + 1)) (i + 1) k (rw behind at (f .order)) (omega arith) (omega arith) (rw (sym e ∙ t) tt) in
+      stands-before (elementAt b) (readPath (slotAt b i)) (count b - (i + 1)) (i + 1) k (rw behind at (f .order)) (omega arith) (omega arith) (rw (sym e ∙ t) tt) in
       rw behind (omega arith)
 
   -- it does not: it stands at the place or behind it
@@ -126,20 +117,21 @@ pub back-start : {b : List ℕ} {i from : ℕ} → i < from → Backing b i from
 back-start h = record { behind = h; within = omega arith; found = λ l. absurd (omega arith) }
 
 module _ {b : List ℕ} {i from j : ℕ} (f : SortedBehind b i) (few : from ≤ count b) (inv : Backing b i from j) where
+  -- where the search ends
+  lesser : j ≤ placeBehind b i → j ≡ min from (placeBehind b i)
+  lesser h = elim (decLe from j) [
+    | yes k ↦ omega (arith, inv .within)
+    | no k ↦ omega (arith, inv .found (omega arith))
+  ]
+
   -- a slot is left, and it is the one before
   module _ (left : i + 1 < j) {r : Bool} (e : r ≡ isBefore (readPath (slotAt b (j - 1))) (readPath (slotAt b i))) where
     used : j - 1 < count b
     used = omega (arith, inv .within)
 
     -- it comes before slot i: the search ends
-    pub back-here : r ≡ true → Back b i from j
-    back-here t =
-        record {
-          behind = inv .behind;
-          within = inv .within;
-          before = omega (arith, slot-past f (omega arith) used e t);
-          found = inv .found;
-        }
+    pub back-here : r ≡ true → j ≡ min from (placeBehind b i)
+    back-here t = lesser (omega (arith, slot-past f (omega arith) used e t))
 
     -- it does not
     pub back-next : r ≡ false → Backing b i from (j - 1)
@@ -151,14 +143,8 @@ module _ {b : List ℕ} {i from j : ℕ} (f : SortedBehind b i) (few : from ≤ 
         }
 
   -- none is left
-  pub back-end : j ≤ i + 1 → Back b i from j
-  back-end h =
-      record {
-        behind = inv .behind;
-        within = inv .within;
-        before = omega arith;
-        found = inv .found;
-      }
+  pub back-end : j ≤ i + 1 → j ≡ min from (placeBehind b i)
+  back-end h = lesser (omega arith)
 
 -- ---- the search forth
 

@@ -2,7 +2,7 @@
 use mathlib.Core.Path.{_≡_, refl, sym, ap, ap₂, subst, _∙_}
 use mathlib.Core.Logic.{_⊎_, inl, inr}
 use mathlib.Core.List.{List, [], _∷_, _++_, append-assoc, List·Memᴰ·append-cases}
-use Prim.Native.Nat.{ℕ, zero, suc, _+_, _-_, _≤_, _<_}
+use Prim.Native.Nat.{ℕ, _+_, _-_, _≤_, _<_}
 use native.Mathlib.Omega.{arith}
 use lib.ListN.{length, take, drop, length-append, length-drop, drop-of-length-le, take-append-drop}
 use lib.Seq.{take-at, drop-at, length-take-le, drop-drop}
@@ -14,9 +14,9 @@ use Rattle.model.specs.Path.{formerKey, pathRank}
 use Rattle.model.specs.Element.{Element, rank, validElement, contains}
 use Rattle.model.specs.Slot.{readSlot}
 use Rattle.model.specs.Partition.{count, layout, readPartition}
-use Rattle.model.proofs.Bools.{and-l, and-r}
+use Rattle.model.proofs.Bools.{and-l}
 use Rattle.model.proofs.Members.{all-in, in-all, in-front, in-back}
-use Rattle.model.proofs.Order.{ascending-sorted, sort-in, sorted-sort, sort-sorted, Fresh}
+use Rattle.model.proofs.Order.{ascending-sorted, sorted-drop, sort-in, sorted-sort, sort-sorted, Fresh}
 use Rattle.model.proofs.Sets.{contains-in}
 use Rattle.model.proofs.Partitions.{WellFormed, well-formed, length-layout, count-layout, read-elements, layout-read}
 use Rattle.model.proofs.Resorting.{resort-length, resort-fresh}
@@ -24,12 +24,6 @@ use Rattle.model.proofs.Migrating.{formerRank, rank-former}
 use Rattle.model.proofs.Walks.{rest, rest-more}
 use Rattle.partition.proofs.Finding.{elementAt, elements-from, length-read}
 use Rattle.sorting.specs.Sorting.{Former, Laid, SortedBehind}
-
--- the elements behind the first k are sorted too
-sorted-drop : {A : Type 0} (r : A → List ℕ) (k : ℕ) (l : List A) → T (sorted r l) → T (sorted r (drop k l))
-sorted-drop r zero l t = t
-sorted-drop r (suc k) [] t = t
-sorted-drop r (suc k) (x ∷ l) t = sorted-drop r k l (and-r (ahead r x l) (sorted r l) t)
 
 -- the elements in the order of before, sorted from element i on
 abbrev pub sortedFrom : ℕ → List Element → List Element

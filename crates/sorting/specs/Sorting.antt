@@ -36,13 +36,6 @@ pub record SortedBehind (b : List ℕ) (i : ℕ) : Type 0 where
 abbrev pub placeBehind : List ℕ → ℕ → ℕ
 placeBehind b i = i + 1 + placeOf (readPath (slotAt b i)) (drop (i + 1) (readPartition b))
 
--- what a search for this place from a slot back answers: a slot that does not stand behind it, and is the place where it stands before the first
-pub record Back (b : List ℕ) (i from at : ℕ) : Type 0 where
-  pub behind : i < at
-  pub within : at ≤ from
-  pub before : at ≤ placeBehind b i
-  pub found : at < from → placeBehind b i ≤ at
-
 -- element i moved behind those up to element to
 abbrev pub moved : ℕ → ℕ → List Element → List Element
 moved i to es = take i es ++ (between (i + 1) to es ++ (between i (i + 1) es ++ drop to es))

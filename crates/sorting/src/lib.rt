@@ -1,14 +1,14 @@
 // A partition's elements put into path order, in place: each is moved behind those after it that come before it.
 ghost use mathlib.Core.Path.{_≡_};
 ghost use mathlib.Core.List.{_++_};
-ghost use Prim.Native.Nat.{_+_, _≤_, _<_};
+ghost use Prim.Native.Nat.{_+_, _≤_, _<_, min};
 ghost use lib.ListN.{length, take, drop};
 ghost use Rattle.model.specs.Sets.{sort};
 ghost use Rattle.model.specs.Element.{rank};
 ghost use Rattle.model.specs.Slot.{slotSize, readPath};
 ghost use Rattle.model.specs.Partition.{count, slotAt, layout, readPartition};
 ghost use Rattle.path.specs.Common.{isBefore};
-ghost use Rattle.sorting.specs.Sorting.{Laid, SortedBehind, Former, placeBehind, Back, moved};
+ghost use Rattle.sorting.specs.Sorting.{Laid, SortedBehind, Former, placeBehind, moved};
 
 // Whether slot i comes before slot j in path order.
 fn comes_before(part: &[u8], i: usize, j: usize) -> bool
@@ -19,10 +19,10 @@ fn comes_before(part: &[u8], i: usize, j: usize) -> bool
     m.before
 }
 
-// From a slot on back to the first of those behind slot i before which one stands that comes before slot i.
+// From a slot on back to where slot i comes among those behind it, if that is not behind the slot.
 fn back_from(part: &[u8], i: usize, from: usize) -> usize
     requires { ⌜ SortedBehind (now part) i × (i < from) × (from ≤ count (now part)) ⌝ }
-    ensures { λ r. ⌜ Back (now (part .entry)) i from r ⌝ }
+    ensures { λ r. ⌜ r ≡ min from (placeBehind (now (part .entry)) i) ⌝ }
 {
     let mut j = from;
     while i + 1 < j {
@@ -69,7 +69,7 @@ fn turn(s: &mut [u8])
 {
     let mut scratch = [0u8; 40];
     bytes::copy(&s[0..40], &mut scratch);
-    octets::shift_down(s, 40);
+    octets::move_down(s, 40);
     let end = s.len();
     let start = end - 40;
     bytes::copy(&scratch, &mut s[start..end]);

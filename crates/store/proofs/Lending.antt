@@ -1,11 +1,11 @@
 -- A store after its subject's own partition was lent and written.
 use mathlib.Core.Path.{_≡_, sym, ap, _∙_}
-use mathlib.Core.List.{List, _++_}
+use mathlib.Core.List.{List}
 use Prim.Native.Nat.{ℕ, _+_, _-_, _*_, _<_}
 use native.Mathlib.Omega.{arith}
 use lib.ListN.{length, take, drop}
 use lib.Dec.{T}
-use borrow.Rule.Slice.PartMut.{putMid, post-is}
+use borrow.Rule.Slice.PartMut.{putMid}
 use Rattle.model.specs.Label.{dominates}
 use Rattle.model.specs.Path.{Step}
 use Rattle.model.specs.Value.{Content}
@@ -14,12 +14,11 @@ use Rattle.model.specs.Partition.{layout, count, readPartition, wellFormed}
 use Rattle.model.specs.Store.{partition, replace}
 use Rattle.model.specs.Model.{openModel, ownSet}
 use Rattle.model.proofs.Dominance.{dominates-refl}
-use Rattle.model.proofs.Stores.{yes-has, replace-placed}
 use Rattle.partition.specs.Place.{Formed, placeOf}
 use Rattle.partition.proofs.Layouts.{length-elements}
 use Rattle.groups.specs.Vacant as part
 use Rattle.store.specs.Opened.{Own, Vacant}
-use Rattle.store.proofs.Parts.{held-formed, formed-set, part-lent}
+use Rattle.store.proofs.Parts.{part-replaced, held-formed, formed-set, part-lent}
 
 -- the part of a store that is lent for label k
 abbrev lentPart : ℕ → List ℕ → List ℕ
@@ -69,9 +68,7 @@ module _ {b : List ℕ} {s : ℕ} (o : Own b s) where
     pub own-changed : (f : List Element → List Element) {x : List ℕ} → x ≡ layout (f (readPartition (lentPart k b)))
         → putMid (1284 * k) (1284 * k + 1284 - 1284 * k) b x ≡ replace s (layout (f (ownSet s (openModel b)))) b
     own-changed f {x} g =
-        ap (λ (l : List ℕ). take (1284 * k) b ++ (x ++ l)) (post-is (1284 * k) (1284 * k + 1284) b (omega arith))
-        ∙ ap (λ (n : ℕ). take (1284 * n) b ++ (x ++ drop (1284 * n + 1284) b)) (i .0)
-        ∙ sym (replace-placed s x b (yes-has s b (o .size) (o .label)))
+        part-replaced s b k (o .size) (o .label) (i .0) x
         ∙ ap (λ (l : List ℕ). replace s l b) (g ∙ ap (λ (es : List Element). layout (f es)) lent-set)
 
 -- the part that is lent lacks the path too

@@ -1,22 +1,22 @@
 -- A store's partitions as the code reads them.
 use mathlib.Core.Path.{_≡_, refl, sym, ap, _∙_}
 use mathlib.Core.Bool.{Bool, true, false, not, _&&_, _||_}
-use mathlib.Core.List.{List}
+use mathlib.Core.List.{List, _++_}
 use Prim.Native.Nat.{ℕ, zero, suc, _+_, _-_, _*_, _≤_, _<_}
 use native.Mathlib.Omega.{arith}
 use borrow.Author.Tests.{not-true, not-false}
-use lib.ListN.{length, take, drop, length-drop}
-use lib.Seq.{length-take-le}
+use borrow.Rule.Slice.PartMut.{putMid, post-is}
+use lib.ListN.{length, take, drop}
 use lib.Dec.{T}
 use Rattle.model.specs.Lists.{any, range}
-use Rattle.model.specs.Label.{labels, dominates}
+use Rattle.model.specs.Label.{labels, isLabel, dominates}
 use Rattle.model.specs.Partition.{partitionSize, readPartition, wellFormed}
-use Rattle.model.specs.Store.{storeSize, partition}
+use Rattle.model.specs.Store.{storeSize, partition, replace}
 use Rattle.model.specs.Model.{held, raw, isHeld, elements, openCell, openModel, ownSet}
 use Rattle.model.specs.Rows.{someRaw}
 use Rattle.model.proofs.Bools.{decide, cond-yes, cond-no, is-true, is-false}
 use Rattle.model.proofs.Dominance.{label-lt, dominates-upper, dominates-lower, dominates-le}
-use Rattle.model.proofs.Stores.{yes-has, partition-part}
+use Rattle.model.proofs.Stores.{yes-has, partition-part, length-partition, replace-placed}
 use Rattle.model.proofs.Walks.{Left, left-start}
 
 -- the part that is lent
@@ -28,10 +28,7 @@ module _ (s n : ℕ) (b : List ℕ) (size : length b ≡ storeSize) (t : T (domi
   part-is = sym (partition-part n b (yes-has n b size (dominates-lower s n t)))
 
   pub part-size : length (partition n b) ≡ partitionSize
-  part-size =
-      let h : n < 32 = dominated-lt s n t in
-      let w : 1284 * n + 1284 - 1284 * n ≡ 1284 = omega arith in
-      ap length (sym part-is) ∙ ap (λ (k : ℕ). length (take k (drop (1284 * n) b))) w ∙ length-take-le 1284 (drop (1284 * n) b) (simp length-drop (omega arith))
+  part-size = length-partition n b (yes-has n b size (dominates-lower s n t))
 
 -- a cell is held if its partition is well formed
 pub held-formed : (n : ℕ) (x : List ℕ) → isHeld (openCell n x) ≡ wellFormed n x
@@ -69,6 +66,14 @@ part-lent s n b {k} size t e =
     let p : take (1284 * k + 1284 - 1284 * k) (drop (1284 * k) b) ≡ partition n b =
     ap (λ (i : ℕ). take (1284 * i + 1284 - 1284 * i) (drop (1284 * i) b)) (e .0) ∙ part-is s n b size t in
     (p, ap length p ∙ part-size s n b size t)
+
+-- another put in its place
+pub part-replaced : (n : ℕ) (b : List ℕ) (k : ℕ) → length b ≡ storeSize → T (isLabel n) → k ≡ n → (x : List ℕ)
+    → putMid (1284 * k) (1284 * k + 1284 - 1284 * k) b x ≡ replace n x b
+part-replaced n b k size t e x =
+    ap (λ (l : List ℕ). take (1284 * k) b ++ (x ++ l)) (post-is (1284 * k) (1284 * k + 1284) b (omega arith))
+    ∙ ap (λ (i : ℕ). take (1284 * i) b ++ (x ++ drop (1284 * i + 1284) b)) e
+    ∙ sym (replace-placed n x b (yes-has n b size t))
 
 -- ---- over the labels
 

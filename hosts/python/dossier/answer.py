@@ -58,6 +58,14 @@ class Mask(NamedTuple):
 
     bits: int
 
+    def __bool__(self):
+        """Whether there is one of them."""
+        return self.bits != 0
+
+    def has(self, label):
+        """Whether the partition of the label is one of them."""
+        return self.bits >> label.number & 1 == 1
+
     def labels(self):
         """The labels of these partitions, from low to high."""
         return [Label.from_number(number) for number in range(32) if self.bits >> number & 1]
@@ -96,7 +104,7 @@ class Refusal(IntEnum):
 
     STORE_LENGTH = 1  # the store is not 41,088 bytes long
     SUBJECT = 2  # the subject is no label
-    NOT_WELL_FORMED = 3  # a partition that the subject dominates is not well formed, or stands in the order of before
+    NOT_WELL_FORMED = 3  # a partition that the subject dominates is not well formed, as one is with versions of one name at two levels, written before the order changed
     PATH = 4  # the path is none, or it is the root's and the call is no view, no grade and no XML intake; of a grade, either path
     VALUE = 5  # the kind, or the value's length or bytes, are not allowed
     OTHER_LABEL = 6  # the path's last label is not the subject's

@@ -1,6 +1,6 @@
 -- `dossier_migrate::migrate`: the length, then all partitions.
 use borrow.Author.Needs.{needs}
-use Rattle.dossier_migrate.proofs.Passing.{length-refused, migration-told}
+use Rattle.dossier_migrate.proofs.Progress.{length-refused, migration-told}
 use Rattle.dossier_migrate.proofs.migrate.Statement.{statement}
 use Rattle.dossier_migrate.proofs.migrate.Tie as tie
 

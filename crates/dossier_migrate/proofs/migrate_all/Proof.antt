@@ -2,12 +2,12 @@
 use borrow.Author.Needs.{needs}
 use mathlib.Core.Path.{sym, _∙_}
 use native.Mathlib.Omega.{arith}
-use Rattle.dossier_migrate.proofs.Passing.{bit-small, Passing, pass-start, part-size, mask-small, pass-next, pass-mask, pass-store}
+use Rattle.dossier_migrate.proofs.Progress.{bit-small, Progress, progress-start, part-is, mask-small, progress-next, progress-mask, progress-store}
 use Rattle.dossier_migrate.proofs.migrate_all.Statement.{statement}
 use Rattle.dossier_migrate.proofs.migrate_all.Tie as tie
 
 abbrev Inv-loop : tie.InvT-loop
-Inv-loop store₀ mask₀ n₀ store mask n = Passing store₀ store mask n
+Inv-loop store₀ mask₀ n₀ store mask n = Progress store₀ store mask n
 
 abbrev μ-loop : tie.MeasureT-loop
 μ-loop store₀ mask₀ n₀ store mask n = n
@@ -18,7 +18,7 @@ migrate-all-spec =
     (tie.spec
     Inv-loop
     μ-loop
-    (λ c. pass-start (c .before .pre))  -- loop-holds
+    (λ c. progress-start (c .before .pre))  -- loop-holds
     (λ c. search needs)  -- sub-n
     (λ c. search needs)  -- index-requires
     (λ c. search needs)  -- mul-start
@@ -29,7 +29,7 @@ migrate-all-spec =
     -- migrate-partition-requires
     (λ c κs.
     let inv = c .before .before .before .loop .inv in
-    (part-size _ (inv .size) _ _ (omega (arith, inv .within)) (c .before .index .ensures .0), omega (arith, inv .within)))
+    (part-is _ _ _ (inv .size) (omega (arith, inv .within)) (c .before .index .ensures) .1, omega (arith, inv .within)))
     (λ c. let turn = c .before .before .before .before .before in omega (arith, mask-small (turn .before .loop .inv) (turn .loop-test .taken)))  -- mul-mask
     -- add-mask
     (λ c.
@@ -39,11 +39,11 @@ migrate-all-spec =
     -- loop-again
     (λ c.
     let turn = c .before .before .before .before .before in
-    pass-next (turn .before .loop .inv) (turn .loop-test .taken) (c .before .before .before .before .index .ensures) (c .before .before .migrate-partition .ensures))
+    progress-next (turn .before .loop .inv) (turn .loop-test .taken) (c .before .before .before .before .index .ensures) (c .before .before .migrate-partition .ensures))
     (λ c. c .before .loop .inv .size ∙ sym (c .before .before .before .pre))  -- same-length
     -- returns
     (λ c.
     let start = c .before .before .before in
     let inv = c .before .loop .inv in
-    (pass-mask (start .pre) inv (c .loop-test .left), pass-store (start .pre) inv (c .loop-test .left)))
+    (progress-mask (start .pre) inv (c .loop-test .left), progress-store (start .pre) inv (c .loop-test .left)))
     )

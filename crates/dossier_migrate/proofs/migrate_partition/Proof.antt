@@ -1,6 +1,6 @@
 -- `dossier_migrate::migrate_partition`: tested, and sorted where it is well formed in the order of before.
 use borrow.Author.Needs.{needs}
-use Rattle.dossier_migrate.proofs.Passing.{raw-bit, formed-former, formed-bit}
+use Rattle.dossier_migrate.proofs.Progress.{raw-bit, formed-former, formed-bit}
 use Rattle.dossier_migrate.proofs.migrate_partition.Statement.{statement}
 use Rattle.dossier_migrate.proofs.migrate_partition.Tie as tie
 

@@ -1,13 +1,13 @@
 -- `partition::slots_good`: what is left from slot i on is good if the whole is.
 use borrow.Author.Needs.{needs}
 use Prim.Native.Nat.{_-_}
-use Rattle.path.specs.Steps.{keyOf}
+use Rattle.path.specs.Steps.{keyBy}
 use Rattle.partition.proofs.Checking.{Linking, link-start, link-fails, link-next, link-end}
 use Rattle.partition.proofs.slots_good.Statement.{statement}
 use Rattle.partition.proofs.slots_good.Tie as tie
 
 abbrev Inv-loop : tie.InvT-loop
-Inv-loop part c n former i₀ i = Linking (keyOf former) part n c i
+Inv-loop part c n former i₀ i = Linking (keyBy former) part n c i
 
 abbrev μ-loop : tie.MeasureT-loop
 μ-loop part c n former i₀ i = c - i

@@ -1,4 +1,4 @@
--- `path::step_key`: name and label joined to the model's key. No other law knows path order.
+-- `path::step_key`: name and label joined to the model's key. No other law of the code knows path order.
 use native.Mathlib.Omega.{arith}
 use borrow.Author.Needs.{needs}
 use mathlib.Core.Path.{_≡_}

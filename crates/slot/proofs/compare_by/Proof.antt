@@ -2,7 +2,7 @@
 use borrow.Author.Needs.{needs}
 use Prim.Native.Nat.{_-_}
 use Rattle.model.specs.Slot.{stepAt}
-use Rattle.path.specs.Steps.{keyOf}
+use Rattle.path.specs.Steps.{keyBy}
 use Rattle.path.proofs.Steps.{keyed}
 use Rattle.path.proofs.Common.{Sharing, share-start, share-differ, share-next, share-end}
 use Rattle.slot.proofs.Reading.{compared-slots}
@@ -10,7 +10,7 @@ use Rattle.slot.proofs.compare_by.Statement.{statement}
 use Rattle.slot.proofs.compare_by.Tie as tie
 
 abbrev Inv-loop : tie.InvT-loop
-Inv-loop a b former x y n i₀ i = Sharing (keyOf former) (stepAt a) (stepAt b) x y i
+Inv-loop a b former x y n i₀ i = Sharing (keyBy former) (stepAt a) (stepAt b) x y i
 
 abbrev μ-loop : tie.MeasureT-loop
 μ-loop a b former x y n i₀ i = n - i

@@ -10,7 +10,11 @@ place-of-spec =
     (tie.spec
     (λ c. search needs)  -- add-back-from
     (λ c κs. search needs)  -- back-from-requires
-    (λ c. let back = c .before .back-from .ensures in omega (arith, back .before, back .found (omega arith)))  -- returns
-    (λ c κs. let back = c .before .back-from .ensures in (c .before .before .before .pre .0, back .behind, back .before))  -- forth-from-requires
+    (λ c. omega (arith, c .before .back-from .ensures))  -- returns
+    -- forth-from-requires
+    (λ c κs.
+    let start = c .before .before .before in
+    let back = c .before .back-from .ensures in
+    (start .pre .0, omega (arith, back, start .pre .1), omega (arith, back)))
     (λ c. search needs)  -- returns-2
     )

@@ -14,7 +14,7 @@ turn-spec =
     (λ c. search needs)  -- part-copy-end
     (λ c. search needs)  -- slice-aggregate-copy
     (λ c. search needs)  -- copy-requires
-    (λ c. search needs)  -- shift-down-requires
+    (λ c. search needs)  -- move-down-requires
     (λ c. search needs)  -- sub-start
     (λ c. search needs)  -- slice-aggregate-copy-2
     (λ c. search needs)  -- sub-copy-2
@@ -27,5 +27,5 @@ turn-spec =
     let shifted = c .before .before .before .before .before .before .before in
     let kept = shifted .before .before .before in
     let start = kept .before .before .before .before .before in
-    turned (start .args .s .now) (start .pre) _ _ _ refl (kept .copy .ensures .1) (shifted .shift-down .ensures) (c .before .before .copy2 .ensures .1))
+    turned (start .args .s .now) (start .pre) _ _ _ refl (kept .copy .ensures .1) (shifted .move-down .ensures) (c .before .before .copy2 .ensures .1))
     )

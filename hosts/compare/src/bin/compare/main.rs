@@ -217,7 +217,7 @@ impl Course {
         start: &[u8],
         call: impl Fn(&mut Random, u8) -> Call,
     ) -> Result<(), Difference> {
-        let mut random = Random::part(!seed, sweep);
+        let mut random = Random::part(!seed, u64::MAX / 2 - sweep);
         let mut stores = Stores { product: Lent::new(start, random.below(16)), reference: start.to_vec() };
         for (at, old) in start.iter().enumerate() {
             stores.set_byte(at, stores::other_byte(&mut random, *old));

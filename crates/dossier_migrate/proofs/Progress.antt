@@ -1,12 +1,12 @@
 -- The partitions migrated one by one, from the last on, and the mask that their bits make.
 use mathlib.Core.Path.{_≡_, refl, sym, ap, _∙_}
 use mathlib.Core.Bool.{Bool, true, false, not, cond}
-use mathlib.Core.List.{List, _++_, map}
+use mathlib.Core.List.{List, map}
 use Prim.Native.Nat.{ℕ, suc, _+_, _-_, _*_, _≤_, _<_}
 use native.Mathlib.Omega.{arith}
 use native.Mathlib.Decide.{decLe}
 use borrow.Author.Tests.{not-true, not-false}
-use borrow.Rule.Slice.PartMut.{putMid, post-is}
+use borrow.Rule.Slice.PartMut.{putMid}
 use lib.ListN.{length, take, drop, length-map}
 use lib.Dec.{T, eqb}
 use mir.Facts.{no-eqb}
@@ -14,14 +14,15 @@ use Rattle.model.specs.Lists.{range}
 use Rattle.model.specs.Sets.{sort}
 use Rattle.model.specs.Element.{rank}
 use Rattle.model.specs.Partition.{partitionSize, layout, readPartition}
-use Rattle.model.specs.Store.{storeSize, hasPartition, partition, replace}
+use Rattle.model.specs.Store.{storeSize, partition, replace}
 use Rattle.model.specs.Migration.{formerWellFormed, migrated, migratedStore, binary, Migration, migration}
 use Rattle.model.proofs.Lists.{length-range}
-use Rattle.model.proofs.Dominance.{lt-label, label-lt}
-use Rattle.model.proofs.Stores.{yes-has, partition-part, length-partition, length-replace, replace-placed, partition-own, partition-other}
+use Rattle.model.proofs.Dominance.{lt-label, label-lt, dominates-refl}
+use Rattle.model.proofs.Stores.{yes-has, length-replace, partition-own, partition-other}
 use Rattle.model.proofs.Joined.{same-store}
 use Rattle.model.proofs.Bits.{binary-small}
 use Rattle.model.proofs.Migrating.{migrated-raw, migrated-layout, length-migrated, partition-migrated, length-migrated-store, migration-done, store-kept, refused-length}
+use Rattle.store.proofs.Parts.{part-lent, part-replaced}
 use Rattle.sorting.specs.Sorting.{Former}
 use Rattle.promise.specs.Migrated.{Migrated}
 
@@ -61,35 +62,22 @@ abbrev unformed : List ℕ → ℕ → Bool
 unformed s m = not (formerWellFormed m (partition m s))
 
 -- of the store s₀ the partitions from n on are migrated, and the mask has their bits; those before are as they were
-pub record Passing (s₀ s : List ℕ) (mask n : ℕ) : Type 0 where
+pub record Progress (s₀ s : List ℕ) (mask n : ℕ) : Type 0 where
   pub within : n ≤ 32
   pub size : length s ≡ storeSize
   pub before : (m : ℕ) → m < n → partition m s ≡ partition m s₀
   pub from : (m : ℕ) → n ≤ m → m < 32 → partition m s ≡ migrated m (partition m s₀)
   pub bits : mask ≡ binary (map (unformed s₀) (range (λ m. m) n (32 - n)))
 
-pub pass-start : {s : List ℕ} → length s ≡ storeSize → Passing s s 0 32
-pass-start z = record { within = omega arith; size = z; before = λ m h. refl; from = λ m h l. absurd (omega arith); bits = refl }
+pub progress-start : {s : List ℕ} → length s ≡ storeSize → Progress s s 0 32
+progress-start z = record { within = omega arith; size = z; before = λ m h. refl; from = λ m h l. absurd (omega arith); bits = refl }
 
 -- the part of partition n
-module _ (s : List ℕ) (z : length s ≡ storeSize) (n j : ℕ) (h : n < 32) (e : j ≡ n) where
-  has-it : T (hasPartition n s)
-  has-it = yes-has n s z (lt-label n h)
+pub part-is : (s : List ℕ) (n j : ℕ) → length s ≡ storeSize → n < 32 → (j ≡ n) × (j < 256)
+    → (take (1284 * j + 1284 - 1284 * j) (drop (1284 * j) s) ≡ partition n s) × (length (take (1284 * j + 1284 - 1284 * j) (drop (1284 * j) s)) ≡ partitionSize)
+part-is s n j z h e = part-lent n n s z (dominates-refl n (lt-label n h)) e
 
-  pub part-is : take (1284 * j + 1284 - 1284 * j) (drop (1284 * j) s) ≡ partition n s
-  part-is = ap (λ (i : ℕ). take (1284 * i + 1284 - 1284 * i) (drop (1284 * i) s)) e ∙ sym (partition-part n s has-it)
-
-  pub part-size : length (take (1284 * j + 1284 - 1284 * j) (drop (1284 * j) s)) ≡ partitionSize
-  part-size = ap length part-is ∙ length-partition n s has-it
-
-  -- another put in its place
-  put-back : (y : List ℕ) → putMid (1284 * j) (1284 * j + 1284 - 1284 * j) s y ≡ replace n y s
-  put-back y =
-      ap (λ (i : ℕ). putMid (1284 * i) (1284 * i + 1284 - 1284 * i) s y) e
-      ∙ ap (λ (u : List ℕ). take (1284 * n) s ++ (y ++ u)) (post-is (1284 * n) (1284 * n + 1284) s (omega arith))
-      ∙ sym (replace-placed n y s has-it)
-
-module _ {s₀ s : List ℕ} {mask n : ℕ} (inv : Passing s₀ s mask n) (h : 0 < n) where
+module _ {s₀ s : List ℕ} {mask n : ℕ} (inv : Progress s₀ s mask n) (h : 0 < n) where
   -- the mask has room for a bit
   pub mask-small : mask < 2147483648
   mask-small =
@@ -98,18 +86,19 @@ module _ {s₀ s : List ℕ} {mask n : ℕ} (inv : Passing s₀ s mask n) (h : 0
       (rw (length-map (range (λ m. m) n (32 - n)) (unformed s₀), length-range (λ (m : ℕ). m) n (32 - n)) (omega arith)))
 
   -- the partition before n is migrated
-  pub pass-next : {j : ℕ} → (j ≡ n - 1) × (j < 256) → {r : ℕ} {y : List ℕ} → let x : List ℕ = take (1284 * j + 1284 - 1284 * j) (drop (1284 * j) s) in
+  pub progress-next : {j : ℕ} → (j ≡ n - 1) × (j < 256) → {r : ℕ} {y : List ℕ} → let x : List ℕ = take (1284 * j + 1284 - 1284 * j) (drop (1284 * j) s) in
       (r ≡ bitOf (n - 1) x) × (y ≡ migrated (n - 1) x)
-      → Passing s₀ (putMid (1284 * j) (1284 * j + 1284 - 1284 * j) s y) (2 * mask + r) (n - 1)
-  pass-next {j} e {r} {y} g =
+      → Progress s₀ (putMid (1284 * j) (1284 * j + 1284 - 1284 * j) s y) (2 * mask + r) (n - 1)
+  progress-next {j} e {r} {y} g =
       let k : ℕ = n - 1 in
       let l : k < 32 = omega (arith, inv .within) in
       let x : List ℕ = take (1284 * j + 1284 - 1284 * j) (drop (1284 * j) s) in
-      let own : x ≡ partition k s₀ = part-is s (inv .size) k j l (e .0) ∙ inv .before k (omega arith) in
+      let part = part-is s k j (inv .size) l e in
+      let own : x ≡ partition k s₀ = part .0 ∙ inv .before k (omega arith) in
       let ys : y ≡ migrated k (partition k s₀) = g .1 ∙ ap (migrated k) own in
-      let fit : length y ≡ partitionSize = ap length (g .1) ∙ length-migrated k x (part-size s (inv .size) k j l (e .0)) in
-      let store : putMid (1284 * j) (1284 * j + 1284 - 1284 * j) s y ≡ replace k y s = put-back s (inv .size) k j l (e .0) y in
-      let here : partition k (replace k y s) ≡ migrated k (partition k s₀) = partition-own k y s (has-it s (inv .size) k j l (e .0)) fit ∙ ys in
+      let fit : length y ≡ partitionSize = ap length (g .1) ∙ length-migrated k x (part .1) in
+      let store : putMid (1284 * j) (1284 * j + 1284 - 1284 * j) s y ≡ replace k y s = part-replaced k s j (inv .size) (lt-label k l) (e .0) y in
+      let here : partition k (replace k y s) ≡ migrated k (partition k s₀) = partition-own k y s (yes-has k s (inv .size) (lt-label k l)) fit ∙ ys in
       let more : 32 - k ≡ suc (32 - n) = omega (arith, inv .within) in
       let up : suc k ≡ n = omega arith in
       let behind : binary (map (unformed s₀) (range (λ m. m) k (32 - k))) ≡ cond (unformed s₀ k) 1 0 + 2 * mask =
@@ -130,18 +119,18 @@ module _ {s₀ s : List ℕ} {mask n : ℕ} (inv : Passing s₀ s mask n) (h : 0
       })
 
 -- all are migrated
-module _ {s₀ s : List ℕ} {mask n : ℕ} (z : length s₀ ≡ storeSize) (inv : Passing s₀ s mask n) (h : n ≤ 0) where
+module _ {s₀ s : List ℕ} {mask n : ℕ} (z : length s₀ ≡ storeSize) (inv : Progress s₀ s mask n) (h : n ≤ 0) where
   first : n ≡ 0
   first = omega arith
 
-  pub pass-mask : mask ≡ migration s₀ .mask
-  pass-mask =
+  pub progress-mask : mask ≡ migration s₀ .mask
+  progress-mask =
       inv .bits
       ∙ ap (λ (i : ℕ). binary (map (unformed s₀) (range (λ m. m) i (32 - i)))) first
       ∙ sym (ap (λ (m : Migration). m .mask) (migration-done s₀ z))
 
-  pub pass-store : s ≡ migratedStore s₀
-  pass-store =
+  pub progress-store : s ≡ migratedStore s₀
+  progress-store =
       same-store s (migratedStore s₀) (inv .size) (length-migrated-store s₀ z)
       (λ m l. inv .from m (omega arith) (label-lt m l) ∙ sym (partition-migrated s₀ z m l))
 
