@@ -1,5 +1,6 @@
 // A library that stands before the C library (LD_PRELOAD) and counts a program's calls on files, to end the program at any of
-// them, to let one fail, or to log them. tests/file uses it on dossier_file.
+// them, to let one fail, or to log them. tests/file uses it on dossier_file, tests/command on dossier. The program's new file is the
+// one that it makes by mkstemp, or by open with O_EXCL.
 //
 //   SHIM_LOG=FILE       each call's name is added to FILE, one to a line
 //   SHIM_END=N          the program ends before call N
@@ -80,17 +81,49 @@ static int failed(int error) {
     return -1;
 }
 
+// The store's file itself, emptied: the new file's name without its last seven bytes.
+static int open_in_place(const char *template) {
+    char name[4096];
+    size_t n = strlen(template) - 7;
+    memcpy(name, template, n);
+    name[n] = 0;
+    return (int)syscall(SYS_openat, AT_FDCWD, name, O_RDWR | O_CREAT | O_TRUNC, 0600);
+}
+
+// Keeps the new file's descriptor, and one more.
+static void is_made(int fd) {
+    new_fd = fd;
+    kept_fd = fd < 0 ? -1 : (int)syscall(SYS_dup, fd);
+}
+
+// Opens a file, or makes the new one.
+static int open_any(const char *path, int flags, mode_t mode) {
+    int is_new = (flags & O_EXCL) != 0;
+    if (counted(is_new ? "create" : "open")) {
+        return failed(EIO);
+    }
+    int fd = is_new && has_fault("in-place") ? open_in_place(path) : (int)syscall(SYS_openat, AT_FDCWD, path, flags, mode);
+    if (is_new) {
+        is_made(fd);
+    }
+    made();
+    return fd;
+}
+
 int open(const char *path, int flags, ...) {
     va_list rest;
     va_start(rest, flags);
     mode_t mode = (flags & O_CREAT) ? va_arg(rest, mode_t) : 0;
     va_end(rest);
-    if (counted("open")) {
-        return failed(EIO);
-    }
-    int fd = (int)syscall(SYS_openat, AT_FDCWD, path, flags, mode);
-    made();
-    return fd;
+    return open_any(path, flags, mode);
+}
+
+int open64(const char *path, int flags, ...) {
+    va_list rest;
+    va_start(rest, flags);
+    mode_t mode = (flags & O_CREAT) ? va_arg(rest, mode_t) : 0;
+    va_end(rest);
+    return open_any(path, flags, mode);
 }
 
 ssize_t read(int fd, void *to, size_t n) {
@@ -210,22 +243,12 @@ ssize_t readlink(const char *path, char *to, size_t n) {
     return got;
 }
 
-// The store's file itself, emptied: the template without its last seven bytes.
-static int open_in_place(const char *template) {
-    char name[4096];
-    size_t n = strlen(template) - 7;
-    memcpy(name, template, n);
-    name[n] = 0;
-    return (int)syscall(SYS_openat, AT_FDCWD, name, O_RDWR | O_CREAT | O_TRUNC, 0600);
-}
-
 int mkstemp(char *template) {
     if (counted("mkstemp")) {
         return failed(EACCES);
     }
     int fd = has_fault("in-place") ? open_in_place(template) : mkostemp(template, 0);
-    new_fd = fd;
-    kept_fd = fd < 0 ? -1 : (int)syscall(SYS_dup, fd);
+    is_made(fd);
     made();
     return fd;
 }

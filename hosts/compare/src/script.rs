@@ -31,17 +31,9 @@ pub struct Runner {
     space: Vec<u8>,
 }
 
-/// Runs a script from its first line to its last.
-pub fn run(mut input: impl BufRead, mut output: impl Write) -> io::Result<()> {
-    let mut runner = Runner::new();
-    let (mut line, mut printed) = (Vec::new(), Vec::new());
-    while input.read_until(b'\n', &mut line)? > 0 {
-        runner.answer(line.strip_suffix(b"\n").unwrap_or(&line), &mut printed);
-        output.write_all(&printed)?;
-        line.clear();
-        printed.clear();
-    }
-    output.flush()
+/// Runs a script from its first line to its last on a fresh store.
+pub fn run(input: impl BufRead, output: impl Write) -> io::Result<()> {
+    Runner::new().run(input, output)
 }
 
 impl Default for Runner {
@@ -53,12 +45,29 @@ impl Default for Runner {
 impl Runner {
     /// A runner with a fresh store.
     pub fn new() -> Runner {
-        Runner { store: vec![0; STORE], space: vec![0; SPACE] }
+        Runner::on(vec![0; STORE])
+    }
+
+    /// A runner on these bytes of a store.
+    pub fn on(store: Vec<u8>) -> Runner {
+        Runner { store, space: vec![0; SPACE] }
     }
 
     /// Its store's bytes.
     pub fn store(&self) -> &[u8] {
         &self.store
+    }
+
+    /// Runs a script from its first line to its last.
+    pub fn run(&mut self, mut input: impl BufRead, mut output: impl Write) -> io::Result<()> {
+        let (mut line, mut printed) = (Vec::new(), Vec::new());
+        while input.read_until(b'\n', &mut line)? > 0 {
+            self.answer(line.strip_suffix(b"\n").unwrap_or(&line), &mut printed);
+            output.write_all(&printed)?;
+            line.clear();
+            printed.clear();
+        }
+        output.flush()
     }
 
     /// Carries out one line, without its byte 10, and prints what it answers.

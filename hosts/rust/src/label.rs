@@ -1,6 +1,16 @@
 //! Labels: a level and a set of compartments.
 
 use std::fmt;
+use std::str::FromStr;
+
+use crate::path::number_of;
+
+/// The levels with their names, from low to high.
+const LEVELS: [(Level, &str); 4] =
+    [(Level::Open, "open"), (Level::Trade, "trade"), (Level::House, "house"), (Level::Sealed, "sealed")];
+/// The compartments with their names.
+const COMPARTMENTS: [(Compartment, &str); 3] =
+    [(Compartment::Sizing, "sizing"), (Compartment::Fabric, "fabric"), (Compartment::Cost, "cost")];
 
 /// The level of a label.
 #[derive(Clone, Copy, Debug, PartialEq, Eq, PartialOrd, Ord, Hash)]
@@ -67,6 +77,13 @@ impl Label {
         self.0 & compartment as u8 != 0
     }
 
+    /// The label in words: its level and its compartments, as in `house+sizing`.
+    pub fn words(self) -> String {
+        let level = LEVELS.iter().filter(|(level, _)| *level == self.level()).map(|(_, name)| *name);
+        let compartments = COMPARTMENTS.iter().filter(|(compartment, _)| self.has(*compartment)).map(|(_, name)| *name);
+        level.chain(compartments).collect::<Vec<_>>().join("+")
+    }
+
     /// Whether the label's level is at least the other's and its compartments include the other's.
     pub const fn dominates(self, other: Label) -> bool {
         self.0 / 8 >= other.0 / 8 && self.0 & other.0 & 7 == other.0 & 7
@@ -77,6 +94,46 @@ impl fmt::Display for Label {
     fn fmt(&self, out: &mut fmt::Formatter<'_>) -> fmt::Result {
         self.0.fmt(out)
     }
+}
+
+/// A text that is no label.
+#[derive(Clone, Copy, Debug, PartialEq, Eq)]
+pub struct NoLabel;
+
+impl fmt::Display for NoLabel {
+    fn fmt(&self, out: &mut fmt::Formatter<'_>) -> fmt::Result {
+        write!(
+            out,
+            "a label is a number from 0 to 31, or open, trade, house or sealed, each with +sizing, +fabric or +cost behind it"
+        )
+    }
+}
+
+impl std::error::Error for NoLabel {}
+
+impl FromStr for Label {
+    type Err = NoLabel;
+
+    /// Reads a number from 0 to 31, or words: a level and then the compartments, each once, parted by `+`.
+    fn from_str(text: &str) -> Result<Label, NoLabel> {
+        if let Some(number) = number_of(text) {
+            return Label::from_number(number).ok_or(NoLabel);
+        }
+        let mut words = text.split('+');
+        let level = find(&LEVELS, words.next()).ok_or(NoLabel)?;
+        words.try_fold(Label::new(level, &[]), |label, word| {
+            let compartment = find(&COMPARTMENTS, Some(word)).ok_or(NoLabel)?;
+            if label.has(compartment) {
+                return Err(NoLabel);
+            }
+            Ok(Label(label.0 | compartment as u8))
+        })
+    }
+}
+
+/// What bears this name.
+fn find<T: Copy>(named: &[(T, &str)], word: Option<&str>) -> Option<T> {
+    named.iter().find(|(_, name)| Some(*name) == word).map(|(this, _)| *this)
 }
 
 #[cfg(test)]
@@ -105,5 +162,25 @@ mod tests {
     fn dominance() {
         assert!(label(19).dominates(label(17)) && !label(17).dominates(label(19)));
         assert!(!label(16).dominates(label(9)) && !label(9).dominates(label(16)));
+    }
+
+    #[test]
+    fn words_are_read_back() {
+        for number in 0..32 {
+            assert_eq!(label(number).words().parse(), Ok(label(number)));
+            assert_eq!(number.to_string().parse(), Ok(label(number)));
+        }
+        assert_eq!(label(0).words(), "open");
+        assert_eq!(label(19).words(), "house+sizing+fabric");
+        assert_eq!("sealed+cost+sizing".parse(), Ok(label(29)));
+    }
+
+    #[test]
+    fn what_is_no_label_is_not_read() {
+        let texts =
+            ["", "32", "287", "-1", "+5", "05", "house+", "+house", "house+sizing+sizing", "sizing", "House", "house sizing"];
+        for text in texts {
+            assert_eq!(text.parse::<Label>(), Err(NoLabel), "{text}");
+        }
     }
 }

@@ -8,6 +8,8 @@
 //! bits: no number is narrowed on its way, so that a subject of 287 is refused by 2, a kind of 256 by 5 and a grade in 257 sizes
 //! by 11.
 //!
+//! [`file`] keeps a store in a file, with a lock and a save that a crash leaves whole.
+//!
 //! The borrow checker keeps what the calls ask of a host: a buffer that is written does not overlap another one, and nobody else
 //! writes a lent buffer until the call returns.
 //!
@@ -87,6 +89,7 @@
 compile_error!("the dossier calls take lengths of 64 bits");
 
 mod answer;
+pub mod file;
 mod label;
 mod listing;
 mod path;
@@ -95,9 +98,9 @@ mod store;
 mod value;
 
 pub use answer::{Answer, Error, Grade, GradeAnswer, Mask, MigrationAnswer, Refusal};
-pub use label::{Compartment, Label, Level};
+pub use label::{Compartment, Label, Level, NoLabel};
 pub use listing::{Line, Lines, Mark, View};
-pub use path::Path;
+pub use path::{NoPath, Path};
 pub use store::Store;
 pub use value::{Kind, Value};
 

@@ -1,0 +1,65 @@
+//! Files and standard output, as the commands use them.
+
+use std::ffi::OsStr;
+use std::fs;
+use std::io::{self, ErrorKind, IsTerminal, Read, Write};
+use std::path::Path;
+
+use dossier::Store;
+use dossier::file::{self, FileError, StoreFile, Wait};
+
+use crate::arguments::Words;
+use crate::failure::{Done, Failure, eprint_all};
+
+/// Reads the store of the command's file, to be shown.
+pub fn read_store(words: &Words) -> Result<Store<'static>, Failure> {
+    waiting(words, file::read)
+}
+
+/// Opens the store of the command's file, to be changed and saved. It is locked until it is dropped.
+pub fn open_store(words: &Words) -> Result<StoreFile, Failure> {
+    waiting(words, StoreFile::open)
+}
+
+/// Opens the command's file. Where it is in use and a person looks on, it is said that it is waited for.
+fn waiting<T>(words: &Words, open: impl Fn(&Path, Wait) -> Result<T, FileError>) -> Result<T, Failure> {
+    let name = words.file();
+    let file = Path::new(name);
+    let opened = match open(file, Wait::No) {
+        Err(FileError::InUse) if words.wait() == Wait::Yes => {
+            if io::stderr().is_terminal() {
+                eprint_all(&format!("{} is in use; waiting\n", name.display()));
+            }
+            open(file, Wait::Yes)
+        }
+        opened => opened,
+    };
+    opened.map_err(|error| Failure::store(name, &error))
+}
+
+/// Saves a store that was opened. That a new store's folder could not be synced is told, and it is saved.
+pub fn save(words: &Words, opened: &mut StoreFile) -> Result<(), Failure> {
+    opened.save().map(|_| ()).map_err(|error| Failure::store(words.file(), &error))
+}
+
+/// The bytes of a file, or of standard input where the word is a dash.
+pub fn read_all(word: &OsStr) -> Result<Vec<u8>, Failure> {
+    let read = if word == "-" {
+        let mut bytes = Vec::new();
+        io::stdin().read_to_end(&mut bytes).map(|_| bytes)
+    } else {
+        fs::read(word)
+    };
+    read.map_err(|error| Failure::other(word, &error))
+}
+
+/// Writes all to standard output. Where nobody reads it any more, nothing is lost.
+pub fn print(text: &[u8]) -> Result<Done, Failure> {
+    let mut output = io::stdout().lock();
+    match output.write_all(text).and_then(|()| output.flush()) {
+        Err(error) if error.kind() != ErrorKind::BrokenPipe => {
+            Err(Failure::other(OsStr::new("standard output"), &error))
+        }
+        _ => Ok(Done::Well),
+    }
+}

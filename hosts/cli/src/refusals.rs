@@ -1,0 +1,175 @@
+//! Refusals in words. What is said of a script's line is made from its answer and the line alone, so that it says no more than
+//! the subject may know.
+
+use dossier::{Label, Refusal};
+
+use crate::script::{Call, OUTPUT_BYTES, Step, Verb};
+use crate::shown::named;
+
+/// What a refusal means, and what to do about it.
+pub fn meaning(refusal: Refusal) -> (&'static str, &'static str) {
+    match refusal {
+        Refusal::StoreLength => (
+            "The store is not 41,088 bytes long.",
+            "Lend a store's bytes, all of them. dossier new makes a file with an empty one.",
+        ),
+        Refusal::Subject => ("The subject is no label.", "A label is a number from 0 to 31: level x 8 + compartments."),
+        Refusal::NotWellFormed => (
+            "A partition that the subject dominates is not well formed.",
+            "The store's owner looks with dossier check. One that was written before the path order changed is brought into the \
+             order of now by dossier migrate; a broken one has to come from a copy that was kept.",
+        ),
+        Refusal::Path => (
+            "The path is not valid.",
+            "It has one to six steps with names from 1 to 65535 and labels from 0 to 31, each label dominating the one before. The \
+             root alone, /, may be viewed and be the parent of a style; nothing else may be done with it.",
+        ),
+        Refusal::Value => (
+            "The value is not allowed.",
+            "A group has none; a measure is a whole number of 32 bits with a sign; a text has 1 to 16 characters of ASCII, bytes 32 \
+             to 126.",
+        ),
+        Refusal::OtherLabel => (
+            "The path does not end in the subject's label.",
+            "A subject writes elements of its own label alone: end the path in that label, or make the call under the path's.",
+        ),
+        Refusal::Absent => (
+            "What the call needs is not there for this subject.",
+            "A view, a grade and the parent of a style need a path in view. An insert needs its parent in view, or missing steps that \
+             all bear the subject's label. An update and a delete need a live element. Whether something is hidden or missing is not \
+             told.",
+        ),
+        Refusal::Live => ("The element is live already.", "Change its value by an update, or delete it first."),
+        Refusal::Full => (
+            "The label's partition has no room.",
+            "It holds at most 32 elements, missing groups counted: delete some of this label, or divide them among labels.",
+        ),
+        Refusal::OutputShort => (
+            "The output is too short for the view.",
+            "In a script it has 16,384 bytes: view a path further down, or use dossier view, which has room for every view. A host \
+             lends a longer output.",
+        ),
+        Refusal::Sizes => ("The number of sizes of a grade is not 1 to 64.", "Give another number of sizes."),
+        Refusal::NoMeasure => (
+            "A path of the grade is in view and is no live measure's.",
+            "Give two live measures: no group, text, removed element or root.",
+        ),
+        Refusal::Form => (
+            "The XML is not in form.",
+            "It has to be one element, byte for byte as dossier view --format xml writes it inside the dossier tag, siblings in any \
+             order: no white space between tags, no declaration, six steps at most with the parent's, no two siblings equal in name \
+             and label.",
+        ),
+        Refusal::NotOwn => (
+            "An element of the XML bears another label than the subject's, or is marked REMOVED.",
+            "Send the style under its own label, and only what is PRESENT.",
+        ),
+    }
+}
+
+/// A refusal as it is told of a call that was not made by a script.
+pub fn told(refusal: Refusal) -> String {
+    let (cause, advice) = meaning(refusal);
+    format!("refused by {}: {cause} {advice}\n", refusal.number())
+}
+
+/// Why a script's call was refused by a number.
+pub fn of_call(number: u32, call: &Call) -> String {
+    let cause = match Refusal::from_number(number) {
+        Some(refusal) => cause(refusal, call),
+        None => "the library is of another version".to_string(),
+    };
+    format!("refused by {number}: {cause}")
+}
+
+/// The cause of a refusal, for this call.
+fn cause(refusal: Refusal, call: &Call) -> String {
+    let (subject, path) = (subject_of(call), call.path_text());
+    match refusal {
+        Refusal::Subject => format!("subject {subject} is no label; labels are 0 to 31"),
+        Refusal::NotWellFormed => {
+            format!(
+                "a partition that {subject} dominates is not well formed; the store's owner can see it with dossier check"
+            )
+        }
+        Refusal::Path => path_cause(call),
+        Refusal::Value => value_cause(call),
+        Refusal::OtherLabel => {
+            let last = call.steps.last().map_or(String::new(), |step| label_named(step.label));
+            format!(
+                "{path} ends in label {last}, and the subject is {subject}: a subject writes elements of its own label alone"
+            )
+        }
+        Refusal::Absent => absent_cause(call),
+        Refusal::Live => format!("{path} is live already; U in place of I changes its value"),
+        Refusal::Full => format!("label {subject} has no room for it: 32 elements at most, missing groups counted"),
+        Refusal::OutputShort => {
+            format!(
+                "the view of {path} is longer than {OUTPUT_BYTES} bytes; view a path further down, or use dossier view"
+            )
+        }
+        other => meaning(other).0.to_string(),
+    }
+}
+
+/// A label's number and words, or the number of what is no label.
+fn label_named(number: u8) -> String {
+    Label::from_number(number.into()).map_or(number.to_string(), named)
+}
+
+/// The subject, in numbers and words.
+fn subject_of(call: &Call) -> String {
+    Label::from_number(call.subject).map_or(call.subject.to_string(), named)
+}
+
+/// What is wrong with a path: the first cause that applies.
+fn path_cause(call: &Call) -> String {
+    let steps = &call.steps;
+    if steps.is_empty() {
+        return "the root can only be viewed".to_string();
+    }
+    if steps.len() > 6 {
+        return format!("the path has {} steps; six are the most", steps.len());
+    }
+    let step_cause = |(at, step): (usize, &Step)| {
+        let before = at.checked_sub(1).map(|before| steps[before].label);
+        step_cause(before, *step)
+            .map(|cause| format!("step {} of the path, {}:{}: {cause}", at + 1, step.name, step.label))
+    };
+    steps.iter().enumerate().find_map(step_cause).unwrap_or_else(|| "the path is not valid".to_string())
+}
+
+/// What is wrong with a step behind the label before it.
+fn step_cause(before: Option<u8>, step: Step) -> Option<String> {
+    if step.name == 0 {
+        return Some("names begin at 1".to_string());
+    }
+    let Some(label) = Label::from_number(step.label.into()) else {
+        return Some("labels end at 31".to_string());
+    };
+    let before = before.and_then(|before| Label::from_number(before.into()))?;
+    (!label.dominates(before))
+        .then(|| format!("label {} does not dominate {}, the one before it", named(label), named(before)))
+}
+
+/// What is wrong with a value that reads.
+fn value_cause(call: &Call) -> String {
+    match &call.verb {
+        Verb::Insert(value) | Verb::Update(value) => {
+            format!("the text has {} characters; 1 to 16 are allowed", value.bytes.len())
+        }
+        _ => meaning(Refusal::Value).0.to_string(),
+    }
+}
+
+/// What is not there.
+fn absent_cause(call: &Call) -> String {
+    let (subject, path) = (subject_of(call), call.path_text());
+    match call.verb {
+        Verb::View => format!("{path} is not in view of {subject}"),
+        Verb::Insert(_) => format!(
+            "the parent of {path} is not in view of {subject}, and a missing step that bears another label is not made"
+        ),
+        Verb::Update(_) | Verb::Delete => format!("{path} is not live"),
+    }
+}

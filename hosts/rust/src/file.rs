@@ -1,0 +1,291 @@
+//! A store kept in a file: read under a lock, and saved by a new file that gets the old one's name.
+//!
+//! The lock is the system's advisory lock on the file itself, shared while a store is only read. A save replaces the file, so
+//! whoever waited for the lock may hold that of a file that no longer bears the name: it is looked up again until it does.
+//! `dossier_file` takes no lock; so a save looks just before the rename whether the file is still the one that was read.
+
+use std::collections::hash_map::RandomState;
+use std::fmt;
+use std::fs::{self, File, Metadata, OpenOptions, TryLockError};
+use std::hash::BuildHasher;
+use std::io::{self, ErrorKind, Read, Write};
+use std::os::unix::fs::{fchown, FileExt, MetadataExt, OpenOptionsExt};
+use std::path::{Path, PathBuf};
+
+use crate::{Store, STORE_BYTES};
+
+/// The mode of a file that is made: its owner's alone, since it holds the texts of every label.
+const OWNER_ALONE: u32 = 0o600;
+/// How many names are tried for the new file of a save.
+const TRIES: u32 = 100;
+
+/// A store's bytes.
+type Bytes = Box<[u8; STORE_BYTES]>;
+
+/// What to do where another holds the file's lock.
+#[derive(Clone, Copy, Debug, PartialEq, Eq)]
+pub enum Wait {
+    /// Wait until it is let go.
+    Yes,
+    /// Give up: [`FileError::InUse`].
+    No,
+}
+
+/// Why a store in a file could not be opened or saved.
+#[derive(Debug)]
+#[non_exhaustive]
+pub enum FileError {
+    /// The file could not be opened or read.
+    Open(io::Error),
+    /// The file is a folder, a device or a pipe.
+    NotRegular,
+    /// The file has this many bytes and not [`STORE_BYTES`].
+    NoStore(u64),
+    /// There is a file of this name already.
+    Exists,
+    /// Another holds the lock.
+    InUse,
+    /// The file could not be locked.
+    Lock(io::Error),
+    /// The file is no longer the one that was read; nothing was saved.
+    Changed,
+    /// The new file could not be made, written or given its name; the old store is there.
+    Save(io::Error),
+    /// The new store is there, but its folder could not be synced, so that the name may not survive a loss of power.
+    NotSynced(io::Error),
+}
+
+impl fmt::Display for FileError {
+    fn fmt(&self, out: &mut fmt::Formatter<'_>) -> fmt::Result {
+        match self {
+            FileError::Open(error) => write!(out, "cannot be opened: {error}"),
+            FileError::NotRegular => write!(out, "is no regular file"),
+            FileError::NoStore(length) => write!(out, "is no store: it has {length} bytes, a store has {STORE_BYTES}"),
+            FileError::Exists => write!(out, "is there already"),
+            FileError::InUse => write!(out, "is in use"),
+            FileError::Lock(error) => write!(out, "cannot be locked: {error}"),
+            FileError::Changed => write!(out, "not saved: the file was changed meanwhile"),
+            FileError::Save(error) => write!(out, "not saved: {error}"),
+            FileError::NotSynced(error) => write!(out, "saved, but its folder is not synced: {error}"),
+        }
+    }
+}
+
+impl std::error::Error for FileError {
+    fn source(&self) -> Option<&(dyn std::error::Error + 'static)> {
+        match self {
+            FileError::Open(error) | FileError::Lock(error) | FileError::Save(error) | FileError::NotSynced(error) => Some(error),
+            _ => None,
+        }
+    }
+}
+
+/// Makes a file with an empty store, its owner's alone. No file is overwritten.
+pub fn create(path: &Path) -> Result<(), FileError> {
+    let mut file = match OpenOptions::new().read(true).write(true).create_new(true).mode(OWNER_ALONE).open(path) {
+        Err(error) if error.kind() == ErrorKind::AlreadyExists => return Err(FileError::Exists),
+        opened => opened.map_err(FileError::Save)?,
+    };
+    let filled = file.lock().map_err(FileError::Lock).and_then(|()| fill(&mut file, &[0; STORE_BYTES]).map_err(FileError::Save));
+    if filled.is_err() {
+        let _ = fs::remove_file(path);
+    }
+    filled.and_then(|()| sync_folder(path))
+}
+
+/// Reads the store of a file under a shared lock, which is let go at once: the bytes are the caller's.
+pub fn read(path: &Path, wait: Wait) -> Result<Store<'static>, FileError> {
+    let opened = open_locked(path, Access::Shared, wait)?;
+    read_store(&opened.file).map(Store::from)
+}
+
+/// A store that is read from a file and may be saved there. Nobody else who takes locks reads or saves it meanwhile.
+pub struct StoreFile {
+    name: PathBuf,
+    file: File,
+    denied: Option<ErrorKind>,
+    read: Bytes,
+    store: Store<'static>,
+}
+
+impl StoreFile {
+    /// Opens a file and locks it, until this is dropped. Symbolic links are followed.
+    pub fn open(path: &Path, wait: Wait) -> Result<StoreFile, FileError> {
+        let Opened { name, file, denied } = open_locked(path, Access::Alone, wait)?;
+        let read = read_store(&file)?;
+        let store = Store::from(read.clone());
+        Ok(StoreFile { name, file, denied, read, store })
+    }
+
+    /// The store.
+    pub fn store(&self) -> &Store<'static> {
+        &self.store
+    }
+
+    /// The store, to be changed.
+    pub fn store_mut(&mut self) -> &mut Store<'static> {
+        &mut self.store
+    }
+
+    /// Saves the store by a new file, synced and renamed, if a byte has changed since it was read or saved: whether it has. The
+    /// new file has the old one's mode and group and, where the system allows it, its owner.
+    pub fn save(&mut self) -> Result<bool, FileError> {
+        if self.store.as_bytes() == &self.read[..] {
+            return Ok(false);
+        }
+        if let Some(kind) = self.denied {
+            return Err(FileError::Save(kind.into()));
+        }
+        let (mut file, new_name) = new_beside(&self.name).map_err(FileError::Save)?;
+        if let Err(error) = self.replace(&mut file, &new_name) {
+            let _ = fs::remove_file(&new_name);
+            return Err(error);
+        }
+        self.file = file;
+        self.read.copy_from_slice(self.store.as_bytes());
+        sync_folder(&self.name).map(|()| true)
+    }
+
+    /// Fills the new file, which is locked before anybody can find it, and gives it the store's name.
+    fn replace(&self, new: &mut File, new_name: &Path) -> Result<(), FileError> {
+        lock(new, Access::Alone, Wait::No)?;
+        let about = self.file.metadata().map_err(FileError::Save)?;
+        set_rights(new, &about).and_then(|()| fill(new, self.store.as_bytes())).map_err(FileError::Save)?;
+        if !self.is_as_read() {
+            return Err(FileError::Changed);
+        }
+        fs::rename(new_name, &self.name).map_err(FileError::Save)
+    }
+
+    /// Whether the name is still borne by the file that was read, with the same bytes.
+    fn is_as_read(&self) -> bool {
+        let mut bytes = [0; STORE_BYTES];
+        let length = self.file.metadata().map(|about| about.len());
+        bears(&self.name, &self.file)
+            && length.is_ok_and(|length| length == STORE_BYTES as u64)
+            && self.file.read_exact_at(&mut bytes, 0).is_ok()
+            && bytes == *self.read
+    }
+}
+
+/// Who may hold the lock at the same time.
+#[derive(Clone, Copy, PartialEq, Eq)]
+enum Access {
+    Shared,
+    Alone,
+}
+
+/// A file that is locked, its name without links, and why it may not be written, if it may not.
+struct Opened {
+    name: PathBuf,
+    file: File,
+    denied: Option<ErrorKind>,
+}
+
+/// Opens and locks a file; again where another file has got the name meanwhile.
+fn open_locked(path: &Path, access: Access, wait: Wait) -> Result<Opened, FileError> {
+    let name = fs::canonicalize(path).map_err(FileError::Open)?;
+    loop {
+        if !fs::metadata(&name).map_err(FileError::Open)?.is_file() {
+            return Err(FileError::NotRegular);
+        }
+        let (file, denied) = open_as(&name, access).map_err(FileError::Open)?;
+        lock(&file, access, wait)?;
+        if bears(&name, &file) {
+            return Ok(Opened { name, file, denied });
+        }
+    }
+}
+
+/// Opens a file, to be written too where it is to be had alone. One that may not be written is opened to be read: a script may
+/// change nothing.
+fn open_as(name: &Path, access: Access) -> io::Result<(File, Option<ErrorKind>)> {
+    if access == Access::Shared {
+        return File::open(name).map(|file| (file, None));
+    }
+    match OpenOptions::new().read(true).write(true).open(name) {
+        Err(error) if matches!(error.kind(), ErrorKind::PermissionDenied | ErrorKind::ReadOnlyFilesystem) => {
+            File::open(name).map(|file| (file, Some(error.kind())))
+        }
+        opened => opened.map(|file| (file, None)),
+    }
+}
+
+/// Locks a file.
+fn lock(file: &File, access: Access, wait: Wait) -> Result<(), FileError> {
+    let tried = match (access, wait) {
+        (Access::Shared, Wait::Yes) => return file.lock_shared().map_err(FileError::Lock),
+        (Access::Alone, Wait::Yes) => return file.lock().map_err(FileError::Lock),
+        (Access::Shared, Wait::No) => file.try_lock_shared(),
+        (Access::Alone, Wait::No) => file.try_lock(),
+    };
+    tried.map_err(|error| match error {
+        TryLockError::WouldBlock => FileError::InUse,
+        TryLockError::Error(error) => FileError::Lock(error),
+    })
+}
+
+/// Whether the name leads to this file.
+fn bears(name: &Path, file: &File) -> bool {
+    let identity = |about: Metadata| (about.dev(), about.ino());
+    match (fs::metadata(name), file.metadata()) {
+        (Ok(named), Ok(held)) => identity(named) == identity(held),
+        _ => false,
+    }
+}
+
+/// The bytes of a file that has those of a store.
+fn read_store(file: &File) -> Result<Bytes, FileError> {
+    let mut bytes = Vec::with_capacity(STORE_BYTES + 1);
+    file.take(STORE_BYTES as u64 + 1).read_to_end(&mut bytes).map_err(FileError::Open)?;
+    let count = bytes.len() as u64;
+    let length = |_| FileError::NoStore(file.metadata().map_or(count, |about| about.len().max(count)));
+    bytes.into_boxed_slice().try_into().map_err(length)
+}
+
+/// A new file beside this one: its name, a dot and six letters.
+fn new_beside(name: &Path) -> io::Result<(File, PathBuf)> {
+    let mut tries = 0;
+    loop {
+        let mut new_name = name.as_os_str().to_owned();
+        new_name.push(".");
+        new_name.push(letters(RandomState::new().hash_one(tries)));
+        let new_name = PathBuf::from(new_name);
+        match OpenOptions::new().read(true).write(true).create_new(true).mode(OWNER_ALONE).open(&new_name) {
+            Err(error) if error.kind() == ErrorKind::AlreadyExists && tries < TRIES => tries += 1,
+            made => return made.map(|file| (file, new_name)),
+        }
+    }
+}
+
+/// Six letters from a random number.
+fn letters(random: u64) -> String {
+    (0..6).map(|at| char::from(b'a' + (random >> (8 * at) & 0xff) as u8 % 26)).collect()
+}
+
+/// Gives a file the mode and the group of another, and its owner where the system allows it.
+fn set_rights(file: &File, about: &Metadata) -> io::Result<()> {
+    let own = file.metadata()?;
+    if own.uid() != about.uid() {
+        let _ = fchown(file, Some(about.uid()), None);
+    }
+    if own.gid() != about.gid() {
+        fchown(file, None, Some(about.gid()))?;
+    }
+    file.set_permissions(about.permissions())
+}
+
+/// Writes and syncs a file.
+fn fill(file: &mut File, bytes: &[u8]) -> io::Result<()> {
+    file.write_all(bytes)?;
+    file.sync_all()
+}
+
+/// Syncs the folder that a file stands in, so that its name survives a loss of power.
+fn sync_folder(name: &Path) -> Result<(), FileError> {
+    let folder = match name.parent() {
+        Some(folder) if folder != Path::new("") => folder,
+        _ => Path::new("."),
+    };
+    File::open(folder).and_then(|folder| folder.sync_all()).map_err(FileError::NotSynced)
+}
