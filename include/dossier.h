@@ -1,4 +1,4 @@
-/* The labelled dossier store: its calls for C and C++.
+/* dossier, the labelled dossier store of the project Yaztobel: its calls for C and C++. docs/GUIDE.md is where to begin.
  *
  * Link with target/staticlib/libdossier_c.a, which `tools/build --archive dossier_c` builds. It needs memmove and memset of the C
  * library and nothing else. It keeps nothing between calls, allocates nothing and starts no thread.

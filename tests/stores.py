@@ -12,7 +12,7 @@ import reference  # noqa: E402
 SIZE = 41088
 PARTITION = 1284
 NOBODY = 65534
-EXAMPLES = ['listing', 'versions', 'full', 'correcting', 'groups', 'sealed']
+EXAMPLES = ['listing', 'versions', 'full', 'correcting', 'groups', 'sealed', 'chart']
 # a script that changes the store made by versions.script, and what it answers
 CHANGE = b'0\tI\t40:0\tT\tCOLLAR\n'
 CHANGED = b'A\t0\t0\n'

@@ -11,7 +11,7 @@ use crate::date::Date;
 use crate::element::{self, Content, Element};
 use crate::failure::{Done, Failure};
 use crate::files;
-use crate::html::{content, escaped, header, page, tagged};
+use crate::html::{content, header, page, tagged};
 use crate::shown::{millimetres, named};
 
 /// How wide the bars' space is, in units of its drawing.
@@ -101,13 +101,10 @@ fn measures(elements: &[Element]) -> String {
     let low = measured.iter().map(|(_, hundredths)| i64::from(*hundredths)).min().unwrap_or(0).min(0);
     let high = measured.iter().map(|(_, hundredths)| i64::from(*hundredths)).max().unwrap_or(0).max(0);
     let row = |(at, hundredths): &(usize, i32)| {
-        let place = escaped(&place(&elements[..=*at]));
+        let place = tagged("td", "place", &place(&elements[..=*at]));
         let label = tagged("td", "label", &named(elements[*at].label));
         let value = tagged("td", "number", &millimetres(*hundredths));
-        format!(
-            "<tr><td>{place}</td>{label}{value}<td class=\"bars\">{}</td></tr>\n",
-            bar(i64::from(*hundredths), low, high)
-        )
+        format!("<tr>{place}{label}{value}<td class=\"bars\">{}</td></tr>\n", bar(i64::from(*hundredths), low, high))
     };
     let rows: String = measured.iter().map(row).collect();
     let heads = "<tr><th>Measure</th><th>Label</th><th class=\"number\">mm</th><th class=\"bars\"></th></tr>";
@@ -117,7 +114,7 @@ fn measures(elements: &[Element]) -> String {
 /// Where the last of these elements stands: the names, with their texts, of those above it that are listed, and its own.
 fn place(elements: &[Element]) -> String {
     let (mut names, mut depth) = (Vec::new(), usize::MAX);
-    for element in elements.iter().rev().filter(|element| element.path.depth() > 0) {
+    for element in elements.iter().rev() {
         if element.path.depth() < depth {
             depth = element.path.depth();
             names.push(match &element.content {

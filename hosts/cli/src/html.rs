@@ -28,7 +28,8 @@ tr { break-inside: avoid; }
 .label { font-size: .82em; color: #444; }
 .removed { font-style: italic; }
 .number { text-align: right; white-space: nowrap; font-variant-numeric: tabular-nums; }
-.bars { width: 38%; padding-right: 0; }
+.place, .text, .value { white-space: pre-wrap; overflow-wrap: anywhere; }
+.bars { width: 38%; padding-right: 0; vertical-align: middle; }
 .bars svg { display: block; width: 100%; height: .72rem; }
 @media print { body { padding: 0; max-width: none; } .label { color: #000; } }
 ";

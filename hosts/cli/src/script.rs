@@ -47,14 +47,23 @@ pub struct Call {
 impl Call {
     /// Makes the call on a store: what it answers. A view is written to the output.
     pub fn carry_out(&self, store: &mut [u8], output: &mut [u8]) -> Answer {
-        let path: Vec<u8> =
-            self.steps.iter().flat_map(|step| [step.name.to_le_bytes().as_slice(), &[step.label]].concat()).collect();
+        let path = self.path_bytes();
         match &self.verb {
             Verb::View => raw::view(store, self.subject, &path, output),
             Verb::Insert(value) => raw::insert(store, self.subject, &path, value.kind, &value.bytes),
             Verb::Update(value) => raw::update(store, self.subject, &path, value.kind, &value.bytes),
             Verb::Delete => raw::delete(store, self.subject, &path),
         }
+    }
+
+    /// The path as the calls take it.
+    fn path_bytes(&self) -> Vec<u8> {
+        let mut bytes = Vec::with_capacity(3 * self.steps.len());
+        for step in &self.steps {
+            bytes.extend_from_slice(&step.name.to_le_bytes());
+            bytes.push(step.label);
+        }
+        bytes
     }
 
     /// The path as the line has it.

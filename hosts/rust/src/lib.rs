@@ -1,4 +1,5 @@
-//! The labelled dossier store, as a safe package over the archive `libdossier_c.a` (`tools/build --archive dossier_c`).
+//! dossier, the labelled dossier store of the project Yaztobel, as a safe package over the archive `libdossier_c.a`
+//! (`tools/build --archive dossier_c`). `docs/GUIDE.md` is where to begin.
 //!
 //! A [`Store`] is 41,088 bytes, owned or borrowed: 32 partitions, one for each [`Label`]. Subjects view and change one tree of
 //! elements, each under a label of their own; what a subject sees and is told owes nothing to subjects that he does not
