@@ -1,7 +1,37 @@
-//! Other programs that carry out scripts: how a script is given to one, and how what it prints and leaves is compared.
+//! Other programs that carry out scripts: which scripts they are given, how, and how what they print and leave is compared.
 use crate::random::Random;
 use std::io::{self, ErrorKind, Read, Write};
 use std::process::{Child, Command, ExitStatus, Stdio};
+
+/// Which random scripts are compared: those of a seed, so many of them or only one.
+pub struct Range {
+    pub seed: u64,
+    pub scripts: u64,
+    pub only: Option<u64>,
+}
+
+impl Range {
+    /// Reads it from the end of a command line, `[--seed N] [--scripts N] [--script N]`. Without a seed the clock gives one.
+    pub fn read(mut arguments: impl Iterator<Item = String>, scripts: u64) -> Option<Range> {
+        let clock = std::time::UNIX_EPOCH.elapsed().map_or(1, |since| since.as_nanos() as u64);
+        let mut range = Range { seed: clock, scripts, only: None };
+        while let Some(argument) = arguments.next() {
+            let number = arguments.next()?.parse().ok()?;
+            match argument.as_str() {
+                "--seed" => range.seed = number,
+                "--scripts" => range.scripts = number,
+                "--script" => range.only = Some(number),
+                _ => return None,
+            }
+        }
+        Some(range)
+    }
+
+    /// The numbers of the scripts.
+    pub fn numbers(&self) -> std::ops::Range<u64> {
+        self.only.map_or(0..self.scripts, |only| only..only + 1)
+    }
+}
 
 /// How many answers there are of each number from 0 to 10, and of ?.
 pub type Answers = [u64; 12];

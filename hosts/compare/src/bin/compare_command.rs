@@ -3,7 +3,7 @@
 use reference::STORE;
 use reference::label::LABELS;
 use reference::partition::{PARTITION, SLOT};
-use reference::programs::{self, Answers, Outcome};
+use reference::programs::{self, Answers, Outcome, Range};
 use reference::random::Random;
 use reference::script::Runner;
 use reference::scripts;
@@ -20,9 +20,7 @@ struct Plan {
     dossier: String,
     runner: String,
     dossier_file: String,
-    seed: u64,
-    scripts: u64,
-    only: Option<u64>,
+    range: Range,
 }
 
 /// Why the comparison ends early: something differs, or a program or a file could not be used.
@@ -64,7 +62,7 @@ fn main() -> ExitCode {
         eprintln!("compare_command DOSSIER RUNNER DOSSIER_FILE [--seed N] [--scripts N] [--script N]");
         return ExitCode::from(2);
     };
-    println!("seed {}", plan.seed);
+    println!("seed {}", plan.range.seed);
     match compare(&plan) {
         Ok(true) => ExitCode::SUCCESS,
         Ok(false) => ExitCode::FAILURE,
@@ -75,34 +73,22 @@ fn main() -> ExitCode {
     }
 }
 
-/// Reads the command line. Without a seed the clock gives one.
+/// Reads the command line.
 fn read_arguments() -> Option<Plan> {
-    let clock = std::time::UNIX_EPOCH.elapsed().map_or(1, |since| since.as_nanos() as u64);
     let mut arguments = std::env::args().skip(1);
     let (dossier, runner, dossier_file) = (arguments.next()?, arguments.next()?, arguments.next()?);
-    let mut plan = Plan { dossier, runner, dossier_file, seed: clock, scripts: 100, only: None };
-    while let Some(argument) = arguments.next() {
-        let number = arguments.next()?.parse().ok()?;
-        match argument.as_str() {
-            "--seed" => plan.seed = number,
-            "--scripts" => plan.scripts = number,
-            "--script" => plan.only = Some(number),
-            _ => return None,
-        }
-    }
-    Some(plan)
+    Some(Plan { dossier, runner, dossier_file, range: Range::read(arguments, 100)? })
 }
 
 /// Compares on every script: whether nothing differs and all was met that can be met.
 fn compare(plan: &Plan) -> io::Result<bool> {
     let mut course = Course { plan, folder: Folder::new()?, tally: Tally::default() };
-    let numbers = plan.only.map_or(0..plan.scripts, |only| only..only + 1);
-    for number in numbers {
+    for number in plan.range.numbers() {
         match course.compare(number) {
             Ok(()) => {}
             Err(End::Failed(error)) => return Err(error),
             Err(End::Differs(what)) => {
-                let Plan { dossier, runner, dossier_file, seed, .. } = plan;
+                let Plan { dossier, runner, dossier_file, range: Range { seed, .. } } = plan;
                 println!("DIFFERENCE: {what}");
                 println!("again: compare_command {dossier} {runner} {dossier_file} --seed {seed} --script {number}");
                 return Ok(false);
@@ -110,7 +96,7 @@ fn compare(plan: &Plan) -> io::Result<bool> {
         }
     }
     course.tally.print();
-    let is_complete = plan.only.is_some() || course.tally.is_complete();
+    let is_complete = plan.range.only.is_some() || course.tally.is_complete();
     if !is_complete {
         println!("not all was met that can be met");
     }
@@ -230,7 +216,7 @@ impl Tally {
 impl Course<'_> {
     /// Compares from the empty store and from another one, and now and then where there is no store.
     fn compare(&mut self, number: u64) -> Result<(), End> {
-        let mut random = Random::part(self.plan.seed, number);
+        let mut random = Random::part(self.plan.range.seed, number);
         self.start_empty(&mut random, number)?;
         self.start_other(&mut random, number)?;
         if number.is_multiple_of(3) { self.start_none(&mut random, number) } else { Ok(()) }

@@ -1,5 +1,5 @@
 //! Gives random scripts to the product's runner by a pipe, in pieces, and compares what it prints with the Rust runner.
-use reference::programs::{self, Answers};
+use reference::programs::{self, Answers, Range};
 use reference::random::Random;
 use reference::{script, scripts};
 use std::io;
@@ -8,9 +8,7 @@ use std::process::{Command, ExitCode};
 /// What the command line asks for.
 struct Plan {
     runner: String,
-    seed: u64,
-    scripts: u64,
-    only: Option<u64>,
+    range: Range,
 }
 
 fn main() -> ExitCode {
@@ -18,15 +16,10 @@ fn main() -> ExitCode {
         eprintln!("compare_scripts RUNNER [--seed N] [--scripts N] [--script N]");
         return ExitCode::from(2);
     };
-    println!("seed {}", plan.seed);
+    println!("seed {}", plan.range.seed);
     match compare(&plan) {
-        Ok(agree) => {
-            if agree {
-                ExitCode::SUCCESS
-            } else {
-                ExitCode::FAILURE
-            }
-        }
+        Ok(true) => ExitCode::SUCCESS,
+        Ok(false) => ExitCode::FAILURE,
         Err(error) => {
             eprintln!("{}: {error}", plan.runner);
             ExitCode::from(2)
@@ -34,36 +27,24 @@ fn main() -> ExitCode {
     }
 }
 
-/// Reads the command line. Without a seed the clock gives one.
+/// Reads the command line.
 fn read_arguments() -> Option<Plan> {
-    let clock = std::time::UNIX_EPOCH.elapsed().map_or(1, |since| since.as_nanos() as u64);
     let mut arguments = std::env::args().skip(1);
-    let mut plan = Plan { runner: arguments.next()?, seed: clock, scripts: 2_000, only: None };
-    while let Some(argument) = arguments.next() {
-        let number = arguments.next()?.parse().ok()?;
-        match argument.as_str() {
-            "--seed" => plan.seed = number,
-            "--scripts" => plan.scripts = number,
-            "--script" => plan.only = Some(number),
-            _ => return None,
-        }
-    }
-    Some(plan)
+    Some(Plan { runner: arguments.next()?, range: Range::read(arguments, 2_000)? })
 }
 
 /// Compares the two on every script: whether they agree and the scripts met each answer.
 fn compare(plan: &Plan) -> io::Result<bool> {
     let (mut lines, mut bytes, mut answers) = (0, 0, Answers::default());
-    let numbers = plan.only.map_or(0..plan.scripts, |only| only..only + 1);
-    for number in numbers {
-        let mut random = Random::part(plan.seed, number);
+    for number in plan.range.numbers() {
+        let mut random = Random::part(plan.range.seed, number);
         let script = scripts::script(&mut random, number);
         let printed = run_product(&plan.runner, &script, &mut random)?;
         let mut expected = Vec::new();
         script::run(script.as_slice(), &mut expected)?;
         if let Some(line) = programs::differing_line(&printed, &expected) {
             println!("DIFFERENCE at {line}");
-            println!("again: compare_scripts {} --seed {} --script {number}", plan.runner, plan.seed);
+            println!("again: compare_scripts {} --seed {} --script {number}", plan.runner, plan.range.seed);
             return Ok(false);
         }
         lines += script.iter().filter(|byte| **byte == b'\n').count();
@@ -72,7 +53,7 @@ fn compare(plan: &Plan) -> io::Result<bool> {
     }
     println!("{lines} lines, {bytes} bytes printed, no difference");
     println!("answers 0 to 10 and ?: {answers:?}");
-    Ok(plan.only.is_some() || are_met(&answers))
+    Ok(plan.range.only.is_some() || are_met(&answers))
 }
 
 /// Whether each answer that a script can meet was met. Its store has the right length and is never corrupted.
