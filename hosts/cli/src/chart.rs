@@ -8,11 +8,11 @@ use dossier::{Label, Path};
 
 use crate::arguments::Words;
 use crate::date::Date;
-use crate::element::{self, Content, Element};
+use crate::element::{self, Element, Version, place, versions};
 use crate::failure::{Done, Failure};
 use crate::files;
 use crate::html::{content, header, page, tagged};
-use crate::shown::{millimetres, named};
+use crate::shown::millimetres;
 
 /// How wide the bars' space is, in units of its drawing.
 const WIDE: i64 = 1000;
@@ -29,7 +29,7 @@ pub fn chart(words: &Words) -> Result<Done, Failure> {
         return Err(words.slip("the page would be written over the store"));
     }
     let store = files::read_store(words)?;
-    let elements = element::elements(&store, subject, &path).map_err(Failure::call)?;
+    let elements = element::elements(&store, subject, &path).map_err(|error| Failure::view(error, subject, &path))?;
     let text = chart_page(subject, &path, &elements, date);
     if output == "-" {
         return files::print(text.as_bytes());
@@ -48,11 +48,12 @@ fn is_same(one: &FilePath, other: &FilePath) -> bool {
 /// The page: the tree with its texts, then the measures.
 fn chart_page(subject: Label, path: &Path, elements: &[Element], date: Date) -> String {
     let title = format!("Chart for {}", subject.words());
+    let footer = format!("{title}, {date}");
     let head = header(&title, subject, path, elements, &[date.to_string()]);
     if elements.is_empty() {
-        return page(&title, &(head + "<p>Nothing is in view.</p>\n"));
+        return page(&title, &footer, &(head + "<p>Nothing is in view.</p>\n"));
     }
-    page(&title, &format!("{head}<h2>Tree</h2>\n{}{}", tree(elements), measures(elements)))
+    page(&title, &footer, &format!("{head}<h2>Tree</h2>\n{}{}", tree(elements), measures(elements)))
 }
 
 /// The tree: a list in which what stands below an element is a list in it.
@@ -80,51 +81,49 @@ fn tree(elements: &[Element]) -> String {
 fn item(element: &Element) -> String {
     let name = tagged("span", "name", &element.name.to_string());
     let label = tagged("span", "label", &element.label.words());
-    let parts = [name, content(&element.content), label];
-    let parts: Vec<&str> = parts.iter().map(String::as_str).filter(|part| !part.is_empty()).collect();
-    format!("<li><div>{}</div>", parts.join(" "))
+    format!("<li><div>{name} {} {label}</div>", content(&element.content))
 }
 
 /// The table of measures, with a bar each.
 fn measures(elements: &[Element]) -> String {
-    let measured: Vec<(usize, i32)> = elements
-        .iter()
-        .enumerate()
-        .filter_map(|(at, element)| match element.content {
-            Content::Measure(hundredths) => Some((at, hundredths)),
-            _ => None,
-        })
-        .collect();
+    let versions = versions(elements);
+    let measured: Vec<(usize, i64)> =
+        elements.iter().enumerate().filter_map(|(at, element)| Some((at, element.content.measure()?.into()))).collect();
     if measured.is_empty() {
         return "<p>No measure is in view.</p>\n".to_string();
     }
-    let low = measured.iter().map(|(_, hundredths)| i64::from(*hundredths)).min().unwrap_or(0).min(0);
-    let high = measured.iter().map(|(_, hundredths)| i64::from(*hundredths)).max().unwrap_or(0).max(0);
-    let row = |(at, hundredths): &(usize, i32)| {
-        let place = tagged("td", "place", &place(&elements[..=*at]));
-        let label = tagged("td", "label", &named(elements[*at].label));
-        let value = tagged("td", "number", &millimetres(*hundredths));
-        format!("<tr>{place}{label}{value}<td class=\"bars\">{}</td></tr>\n", bar(i64::from(*hundredths), low, high))
-    };
-    let rows: String = measured.iter().map(row).collect();
-    let heads = "<tr><th>Measure</th><th>Label</th><th class=\"number\">mm</th><th class=\"bars\"></th></tr>";
-    format!("<h2>Measures</h2>\n<table>\n<thead>{heads}</thead>\n<tbody>\n{rows}</tbody>\n</table>\n")
+    let low = measured.iter().fold(0, |low, (_, measure)| low.min(*measure));
+    let high = measured.iter().fold(0, |high, (_, measure)| high.max(*measure));
+    let (mut rows, mut before) = (String::new(), None);
+    for (at, measure) in &measured {
+        let common = Some(elements[*at].common());
+        let class = row_class(versions[*at], common == before);
+        rows += &row(&elements[..=*at], &class, &bar(*measure, low, high));
+        before = common;
+    }
+    let has_versions = measured.iter().any(|(at, _)| versions[*at] != Version::Only);
+    let legend =
+        if has_versions { "<p>Of versions under one name those of the highest level are in bold.</p>\n" } else { "" };
+    let heads = "<tr><th>Measure</th><th>Label</th><th class=\"number\">mm</th><th class=\"bars\">Length</th></tr>";
+    format!("<h2>Measures</h2>\n{legend}<table>\n<thead>{heads}</thead>\n<tbody>\n{rows}</tbody>\n</table>\n")
 }
 
-/// Where the last of these elements stands: the names, with their texts, of those above it that are listed, and its own.
-fn place(elements: &[Element]) -> String {
-    let (mut names, mut depth) = (Vec::new(), usize::MAX);
-    for element in elements.iter().rev() {
-        if element.path.depth() < depth {
-            depth = element.path.depth();
-            names.push(match &element.content {
-                Content::Text(text) => format!("{} {text}", element.name),
-                _ => element.name.to_string(),
-            });
-        }
-    }
-    names.reverse();
-    names.join(" / ")
+/// The class of a measure's row: whether it is a version of the highest level, and whether it is a further version, which stays on
+/// one sheet of paper with the row before it.
+fn row_class(version: Version, is_further: bool) -> String {
+    let classes = [(version == Version::Highest).then_some("highest"), is_further.then_some("further")];
+    classes.into_iter().flatten().collect::<Vec<_>>().join(" ")
+}
+
+/// The row of the last of these elements, a measure.
+fn row(elements: &[Element], class: &str, bar: &str) -> String {
+    let Some(element) = elements.last() else {
+        return String::new();
+    };
+    let steps: Vec<String> = place(elements).iter().map(|step| tagged("span", "step", step)).collect();
+    let label = tagged("td", "label", &element.label.words());
+    let value = tagged("td", "number", &element.content.measure().map_or(String::new(), millimetres));
+    format!("<tr class=\"{class}\"><td>{}</td>{label}{value}<td class=\"bars\">{bar}</td></tr>\n", steps.join(" / "))
 }
 
 /// The bar of a measure, drawn from 0, in a space from the lowest to the highest.

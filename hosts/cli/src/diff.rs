@@ -16,10 +16,10 @@ use crate::table;
 pub fn diff(words: &Words) -> Result<Done, Failure> {
     let (subject, other, path) = (words.label("--as")?, words.label("--than")?, words.path(1)?);
     let store = files::read_store(words)?;
-    let seen = elements(&store, subject, &path).map_err(Failure::call)?;
+    let seen = elements(&store, subject, &path).map_err(|error| Failure::view(error, subject, &path))?;
     let by_other = match elements(&store, other, &path) {
         Err(Error::Refused(Refusal::Absent)) => Vec::new(),
-        listed => listed.map_err(Failure::call)?,
+        listed => listed.map_err(|error| Failure::view(error, other, &path))?,
     };
     let common: HashSet<&[u8]> = by_other.iter().map(|element| element.path.as_bytes()).collect();
     let more: Vec<&Element> = seen.iter().filter(|element| !common.contains(element.path.as_bytes())).collect();

@@ -1,6 +1,8 @@
 //! What a view lists, each element with its whole path.
 
-use dossier::{Error, LISTING_BYTES_MAX, Label, Line, Mark, Path, Store, Value};
+use std::collections::HashMap;
+
+use dossier::{Error, LISTING_BYTES_MAX, Label, Level, Line, Mark, Path, Store, Value};
 
 use crate::shown::millimetres;
 
@@ -38,6 +40,14 @@ impl Content {
             Content::Group => "group",
             Content::Measure(_) => "measure",
             Content::Text(_) => "text",
+        }
+    }
+
+    /// The measure, if it is one.
+    pub fn measure(&self) -> Option<i32> {
+        match self {
+            Content::Measure(hundredths) => Some(*hundredths),
+            _ => None,
         }
     }
 
@@ -86,6 +96,60 @@ fn element(before: &Path, line: Line) -> Element {
     Element { path, name, label, content }
 }
 
+/// Where the last of these elements stands: itself and those above it that are listed, from the root on, each with its name, its
+/// text, if it is one, and whether it is removed.
+pub fn place(elements: &[Element]) -> Vec<String> {
+    let top = elements.first().map_or(0, |element| element.path.depth());
+    let (mut names, mut depth) = (Vec::new(), usize::MAX);
+    for element in elements.iter().rev() {
+        if depth == top {
+            break;
+        }
+        if element.path.depth() < depth {
+            depth = element.path.depth();
+            names.push(match &element.content {
+                Content::Text(text) => format!("{} {text}", element.name),
+                Content::Removed => format!("{} (removed)", element.name),
+                Content::Group | Content::Measure(_) => element.name.to_string(),
+            });
+        }
+    }
+    names.reverse();
+    names
+}
+
+/// What an element is among the versions under its name.
+#[derive(Clone, Copy, Debug, PartialEq, Eq)]
+pub enum Version {
+    /// There are no others.
+    Only,
+    /// None that is listed has a higher level.
+    Highest,
+    /// One that is listed has a higher level.
+    Lower,
+}
+
+impl Element {
+    /// The path above it and its name: what versions have in common.
+    pub fn common(&self) -> (Path, u16) {
+        (self.path.prefix(self.path.depth().saturating_sub(1)), self.name)
+    }
+}
+
+/// What each element is among the versions under its name that are listed.
+pub fn versions(elements: &[Element]) -> Vec<Version> {
+    let mut levels: HashMap<(Path, u16), Vec<Level>> = HashMap::new();
+    for element in elements {
+        levels.entry(element.common()).or_default().push(element.label.level());
+    }
+    let version = |element: &Element| match levels.get(&element.common()) {
+        Some(levels) if levels.len() > 1 && levels.iter().any(|level| *level > element.label.level()) => Version::Lower,
+        Some(levels) if levels.len() > 1 => Version::Highest,
+        _ => Version::Only,
+    };
+    elements.iter().map(version).collect()
+}
+
 #[cfg(test)]
 mod tests {
     use super::*;
@@ -115,5 +179,29 @@ mod tests {
         assert_eq!(listed("10:0/20:0"), below);
         assert_eq!(listed("10:0/20:0/30:16"), below[1..]);
         assert_eq!(listed("/"), ["10:0 removed", below[0], below[1], "10:0/21:16 measure", "11:0 measure"]);
+    }
+
+    #[test]
+    fn versions_are_told_by_their_level() {
+        let mut store = Store::empty();
+        for (subject, text) in
+            [(0, "10:0"), (8, "10:8"), (16, "10:16"), (17, "10:17"), (0, "11:0"), (8, "10:0/11:8"), (0, "10:0/10:0")]
+        {
+            let subject = Label::from_number(subject).expect("a label");
+            store.insert(subject, &path(text), Value::Group).expect("an insert");
+        }
+        let seen = elements(&store, Label::from_number(31).expect("a label"), &Path::root()).expect("a view");
+        let told: Vec<(String, Version)> =
+            seen.iter().zip(versions(&seen)).map(|(element, version)| (element.path.to_string(), version)).collect();
+        let expected = [
+            ("10:16", Version::Highest),
+            ("10:17", Version::Highest),
+            ("10:8", Version::Lower),
+            ("10:0", Version::Lower),
+            ("10:0/10:0", Version::Only),
+            ("10:0/11:8", Version::Only),
+            ("11:0", Version::Only),
+        ];
+        assert_eq!(told, expected.map(|(path, version)| (path.to_string(), version)));
     }
 }

@@ -3,8 +3,10 @@
 use std::ffi::OsStr;
 use std::io;
 
-use dossier::Error;
 use dossier::file::FileError;
+use dossier::{Error, Label, Path, Refusal};
+
+use crate::refusals;
 
 /// How a command ends that was carried out.
 #[derive(Clone, Copy, Debug, PartialEq, Eq)]
@@ -47,12 +49,17 @@ impl Failure {
         Failure::File(format!("{}: {error}\n", file.display()))
     }
 
-    /// A call that gave no result.
-    pub fn call(error: Error) -> Failure {
+    /// A call that gave no result, told by what its refusal means.
+    pub fn call(error: Error, told: impl FnOnce(Refusal) -> String) -> Failure {
         Failure::Refused(match error {
-            Error::Refused(refusal) => crate::refusals::told(refusal),
+            Error::Refused(refusal) => format!("{}\n", told(refusal)),
             other => format!("{other}\n"),
         })
+    }
+
+    /// A view that gave no result.
+    pub fn view(error: Error, subject: Label, path: &Path) -> Failure {
+        Failure::call(error, |refusal| refusals::of_view(refusal, subject, path))
     }
 
     /// Says on standard error why.

@@ -123,10 +123,11 @@ const COMMANDS: [Command; 9] = [
         words: &["FILE"],
         least: 1,
         options: &[NO_WAIT],
-        line: "bring a store of before request 7/14 into the order of now",
+        line: "bring a store that was written before the path order changed into the order of now",
         about: "For the file's owner, once, before calls resume: brings a store that was written before the path\n\
-                order changed into the order of now, and says of each partition that was left what that means.\n\
-                A store that is in the order of now already is not changed.\n",
+                order changed (request 7/14) into the order of now, and says of the partitions that were left\n\
+                what that means. dossier check tells whether it is needed. A store that is in the order of now\n\
+                already is not changed. It ends with 1 if a broken partition was left.\n",
     },
     Command {
         name: "check",
@@ -196,7 +197,8 @@ pub fn overview() -> String {
     text += "\nA LABEL is a number from 0 to 31 or words: open, trade, house or sealed with +sizing, +fabric, +cost.\n\
              A PATH is steps NAME:LABEL parted by /, as 10:0/20:16; / is the root.\n\n\
              Exit status: 0 done; 1 a call was refused, a line did not read (run --strict, explain), diff found a\n\
-             difference or check a broken partition; 2 usage; 3 a file could not be opened, locked or saved.\n\n\
+             difference, or check or migrate a broken partition; 2 usage; 3 a file could not be opened, locked,\n\
+             read or saved.\n\n\
              dossier COMMAND --help says more of a command, docs/GUIDE.md of scripts and labels.\n";
     text
 }

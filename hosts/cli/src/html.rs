@@ -7,7 +7,6 @@ use crate::shown::{counted, named};
 
 /// How the pages look: black on white, on a screen and on paper of either size.
 const STYLE: &str = "\
-@page { margin: 16mm 15mm; }
 * { box-sizing: border-box; }
 html { color-scheme: light; }
 body { margin: 0 auto; padding: 2rem 1.5rem; max-width: 48rem; background: #fff; color: #000;
@@ -25,11 +24,14 @@ th { border-bottom: 1px solid #000; font-weight: 600; }
 td { border-bottom: 1px solid #ccc; }
 tr { break-inside: avoid; }
 .name { font-weight: 600; font-variant-numeric: tabular-nums; }
-.label { font-size: .82em; color: #444; }
-.removed { font-style: italic; }
+.label { font-size: .82em; color: #444; white-space: nowrap; }
+.removed, .group { font-style: italic; }
 .number { text-align: right; white-space: nowrap; font-variant-numeric: tabular-nums; }
-.place, .text, .value { white-space: pre-wrap; overflow-wrap: anywhere; }
-.bars { width: 38%; padding-right: 0; vertical-align: middle; }
+.text, .value { white-space: pre-wrap; }
+.step { white-space: pre; }
+.highest .number, .highest .step:last-child { font-weight: 700; }
+.further { break-before: avoid; }
+.bars { width: 30%; padding-right: 0; vertical-align: middle; }
 .bars svg { display: block; width: 100%; height: .72rem; }
 @media print { body { padding: 0; max-width: none; } .label { color: #000; } }
 ";
@@ -44,13 +46,23 @@ pub fn tagged(tag: &str, class: &str, text: &str) -> String {
     format!("<{tag} class=\"{class}\">{}</{tag}>", escaped(text))
 }
 
-/// A whole page.
-pub fn page(title: &str, body: &str) -> String {
-    let title = escaped(title);
+/// The margins of a sheet of paper, with a line at its foot and its number. The line must have letters, digits and such marks
+/// alone as mean nothing in a style.
+fn margins(footer: &str) -> String {
+    let small = "font: 8pt Arial, 'DejaVu Sans', sans-serif;";
+    format!(
+        "@page {{ margin: 16mm 15mm 18mm; @bottom-left {{ content: \"{footer}\"; {small} }} \
+         @bottom-right {{ content: counter(page) \" / \" counter(pages); {small} }} }}\n"
+    )
+}
+
+/// A whole page, with a line at the foot of each sheet of paper.
+pub fn page(title: &str, footer: &str, body: &str) -> String {
+    let (title, margins) = (escaped(title), margins(footer));
     format!(
         "<!DOCTYPE html>\n<html lang=\"en\">\n<head>\n<meta charset=\"utf-8\">\n\
          <meta name=\"viewport\" content=\"width=device-width, initial-scale=1\">\n<title>{title}</title>\n\
-         <style>\n{STYLE}</style>\n</head>\n<body>\n{body}</body>\n</html>\n"
+         <style>\n{margins}{STYLE}</style>\n</head>\n<body>\n{body}</body>\n</html>\n"
     )
 }
 
@@ -63,11 +75,11 @@ pub fn header(title: &str, subject: Label, path: &Path, elements: &[Element], mo
     format!("<header>\n<h1>{}</h1>\n{lines}</header>\n", escaped(title))
 }
 
-/// What an element holds, for people; of a removed one that it is removed.
+/// What an element holds, for people; of a group that it is one, of a removed one that it is removed.
 pub fn content(content: &Content) -> String {
     match content {
         Content::Removed => tagged("span", "removed", "removed"),
-        Content::Group => String::new(),
+        Content::Group => tagged("span", "group", "group"),
         other => tagged("span", other.kind(), &other.shown()),
     }
 }
@@ -78,7 +90,11 @@ pub fn view(subject: Label, path: &Path, elements: &[Element]) -> String {
     let rows: String = elements.iter().map(|element| row(path, element)).collect();
     let heads = "<tr><th>Element</th><th>Label</th><th>Kind</th><th>Value</th></tr>";
     let table = format!("<table>\n<thead>{heads}</thead>\n<tbody>\n{rows}</tbody>\n</table>\n");
-    page(&title, &(header(&title, subject, path, elements, &[]) + if elements.is_empty() { "" } else { &table }))
+    page(
+        &title,
+        &title,
+        &(header(&title, subject, path, elements, &[]) + if elements.is_empty() { "" } else { &table }),
+    )
 }
 
 /// A row of the table.

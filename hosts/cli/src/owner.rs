@@ -6,6 +6,7 @@ use crate::arguments::Words;
 use crate::element::{Content, elements};
 use crate::failure::{Done, Failure};
 use crate::files;
+use crate::refusals;
 use crate::shown::{counted, named};
 use crate::table;
 
@@ -61,7 +62,7 @@ pub fn check(words: &Words) -> Result<Done, Failure> {
     let states = labels()
         .map(|label| Ok((label, state(&store, label)?)))
         .collect::<Result<Vec<_>, Error>>()
-        .map_err(Failure::call)?;
+        .map_err(|error| Failure::call(error, refusals::of_any))?;
     let rows: Vec<Vec<String>> = states.iter().map(|(label, state)| row(*label, *state)).collect();
     let text = table::columns(&["label", "in words", "elements", "free", "partition"], &rows);
     let faulty: Vec<Label> =

@@ -1,76 +1,97 @@
 //! Refusals in words. What is said of a script's line is made from its answer and the line alone, so that it says no more than
 //! the subject may know.
 
-use dossier::{Label, Refusal};
+use dossier::{Label, Path, Refusal};
 
 use crate::script::{Call, OUTPUT_BYTES, Step, Verb};
 use crate::shown::named;
 
+/// What each refusal means, and what to do about it, in the order of their numbers.
+const MEANINGS: [(&str, &str); Refusal::ALL.len()] = [
+    (
+        "The store is not 41,088 bytes long.",
+        "Lend a store's bytes, all of them. dossier new makes a file with an empty one.",
+    ),
+    ("The subject is no label.", "A label is a number from 0 to 31: level x 8 + compartments."),
+    (
+        "A partition that the subject dominates is not well formed.",
+        "The store's owner looks with dossier check. One that was written before the path order changed is brought into the \
+         order of now by dossier migrate; a broken one has to come from a copy that was kept.",
+    ),
+    (
+        "The path is not valid.",
+        "It has one to six steps with names from 1 to 65535 and labels from 0 to 31, each label dominating the one before. The \
+         root alone, /, may be viewed and be the parent of a style; nothing else may be done with it.",
+    ),
+    (
+        "The value is not allowed.",
+        "A group has none; a measure is a whole number of 32 bits with a sign; a text has 1 to 16 characters of ASCII, bytes 32 \
+         to 126.",
+    ),
+    (
+        "The path does not end in the subject's label.",
+        "A subject writes elements of its own label alone: end the path in that label, or make the call under the path's.",
+    ),
+    (
+        "What the call needs is not there for this subject.",
+        "A view, a grade and the parent of a style need a path in view. An insert needs its parent in view, or missing steps that \
+         all bear the subject's label. An update and a delete need a live element. Whether something is hidden or missing is not \
+         told.",
+    ),
+    ("The element is live already.", "Change its value by an update, or delete it first."),
+    (
+        "The label's partition has no room.",
+        "It holds at most 32 elements, missing groups counted: delete some of this label, or divide them among labels.",
+    ),
+    (
+        "The output is too short for the view.",
+        "In a script it has 16,384 bytes: view a path further down, or use dossier view, which has room for every view. A host \
+         lends a longer output.",
+    ),
+    ("The number of sizes of a grade is not 1 to 64.", "Give another number of sizes."),
+    (
+        "A path of the grade is in view and is no live measure's.",
+        "Give two live measures: no group, text, removed element or root.",
+    ),
+    (
+        "The XML is not in form.",
+        "It has to be one element, byte for byte as dossier view --format xml PATH writes it inside the dossier tag, siblings in any \
+         order: no white space between tags, no declaration, values that are allowed, six steps at most with the parent's, no two \
+         siblings equal in name and label.",
+    ),
+    (
+        "An element of the XML bears another label than the subject's, or is marked REMOVED.",
+        "Send the style under its own label, and only what is PRESENT.",
+    ),
+];
+
 /// What a refusal means, and what to do about it.
 pub fn meaning(refusal: Refusal) -> (&'static str, &'static str) {
-    match refusal {
-        Refusal::StoreLength => (
-            "The store is not 41,088 bytes long.",
-            "Lend a store's bytes, all of them. dossier new makes a file with an empty one.",
-        ),
-        Refusal::Subject => ("The subject is no label.", "A label is a number from 0 to 31: level x 8 + compartments."),
-        Refusal::NotWellFormed => (
-            "A partition that the subject dominates is not well formed.",
-            "The store's owner looks with dossier check. One that was written before the path order changed is brought into the \
-             order of now by dossier migrate; a broken one has to come from a copy that was kept.",
-        ),
-        Refusal::Path => (
-            "The path is not valid.",
-            "It has one to six steps with names from 1 to 65535 and labels from 0 to 31, each label dominating the one before. The \
-             root alone, /, may be viewed and be the parent of a style; nothing else may be done with it.",
-        ),
-        Refusal::Value => (
-            "The value is not allowed.",
-            "A group has none; a measure is a whole number of 32 bits with a sign; a text has 1 to 16 characters of ASCII, bytes 32 \
-             to 126.",
-        ),
-        Refusal::OtherLabel => (
-            "The path does not end in the subject's label.",
-            "A subject writes elements of its own label alone: end the path in that label, or make the call under the path's.",
-        ),
-        Refusal::Absent => (
-            "What the call needs is not there for this subject.",
-            "A view, a grade and the parent of a style need a path in view. An insert needs its parent in view, or missing steps that \
-             all bear the subject's label. An update and a delete need a live element. Whether something is hidden or missing is not \
-             told.",
-        ),
-        Refusal::Live => ("The element is live already.", "Change its value by an update, or delete it first."),
-        Refusal::Full => (
-            "The label's partition has no room.",
-            "It holds at most 32 elements, missing groups counted: delete some of this label, or divide them among labels.",
-        ),
-        Refusal::OutputShort => (
-            "The output is too short for the view.",
-            "In a script it has 16,384 bytes: view a path further down, or use dossier view, which has room for every view. A host \
-             lends a longer output.",
-        ),
-        Refusal::Sizes => ("The number of sizes of a grade is not 1 to 64.", "Give another number of sizes."),
-        Refusal::NoMeasure => (
-            "A path of the grade is in view and is no live measure's.",
-            "Give two live measures: no group, text, removed element or root.",
-        ),
-        Refusal::Form => (
-            "The XML is not in form.",
-            "It has to be one element, byte for byte as dossier view --format xml writes it inside the dossier tag, siblings in any \
-             order: no white space between tags, no declaration, six steps at most with the parent's, no two siblings equal in name \
-             and label.",
-        ),
-        Refusal::NotOwn => (
-            "An element of the XML bears another label than the subject's, or is marked REMOVED.",
-            "Send the style under its own label, and only what is PRESENT.",
-        ),
-    }
+    MEANINGS[refusal.number() as usize - 1]
 }
 
-/// A refusal as it is told of a call that was not made by a script.
-pub fn told(refusal: Refusal) -> String {
+/// A refusal, with all that can be said of any call.
+pub fn of_any(refusal: Refusal) -> String {
     let (cause, advice) = meaning(refusal);
-    format!("refused by {}: {cause} {advice}\n", refusal.number())
+    format!("refused by {}: {cause} {advice}", refusal.number())
+}
+
+/// Why a view of a path was refused.
+pub fn of_view(refusal: Refusal, subject: Label, path: &Path) -> String {
+    let step = |(name, label): (u16, Label)| Step { name, label: label.number() as u8 };
+    let call = Call { subject: subject.number(), steps: path.steps().map(step).collect(), verb: Verb::View };
+    of_call(refusal.number(), &call)
+}
+
+/// Why a style was not taken in below a parent.
+pub fn of_take(refusal: Refusal, subject: Label, parent: &Path) -> String {
+    let cause = match refusal {
+        Refusal::Live => format!("the style's own element is live below {parent} already"),
+        Refusal::Full => format!("label {} has no room for all of its elements; 32 are the most", named(subject)),
+        Refusal::Form | Refusal::NotOwn => return of_any(refusal),
+        other => return of_view(other, subject, parent),
+    };
+    format!("refused by {}: {cause}", refusal.number())
 }
 
 /// Why a script's call was refused by a number.
@@ -131,12 +152,12 @@ fn path_cause(call: &Call) -> String {
     if steps.len() > 6 {
         return format!("the path has {} steps; six are the most", steps.len());
     }
-    let step_cause = |(at, step): (usize, &Step)| {
+    let cause_at = |(at, step): (usize, &Step)| {
         let before = at.checked_sub(1).map(|before| steps[before].label);
         step_cause(before, *step)
             .map(|cause| format!("step {} of the path, {}:{}: {cause}", at + 1, step.name, step.label))
     };
-    steps.iter().enumerate().find_map(step_cause).unwrap_or_else(|| "the path is not valid".to_string())
+    steps.iter().enumerate().find_map(cause_at).unwrap_or_else(|| "the path is not valid".to_string())
 }
 
 /// What is wrong with a step behind the label before it.

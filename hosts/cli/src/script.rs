@@ -130,7 +130,8 @@ fn read_path(field: &[u8]) -> Result<Vec<Step>, Slip> {
     if field == b"/" {
         return Ok(Vec::new());
     }
-    field.split(|byte| *byte == b'/').map(|step| read_step(step).ok_or_else(|| Slip::Step(step.to_vec()))).collect()
+    let slip = |step: &[u8]| Slip::Path { whole: field.to_vec(), step: step.to_vec() };
+    field.split(|byte| *byte == b'/').map(|step| read_step(step).ok_or_else(|| slip(step))).collect()
 }
 
 /// Reads a step, name and label parted by a colon.

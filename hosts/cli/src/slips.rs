@@ -9,13 +9,18 @@ use crate::script::LINE_BYTES_MAX;
 pub enum Slip {
     Empty,
     Long,
+    Mark,
+    Comment,
     Return,
+    Arrows,
     Spaces,
     NoTab,
+    TwoTabs,
+    Blank,
     Verb(Vec<u8>),
     Fields { verb: u8, found: usize, wanted: usize },
     Subject(Vec<u8>),
-    Step(Vec<u8>),
+    Path { whole: Vec<u8>, step: Vec<u8> },
     Kind(Vec<u8>),
     GroupValue(Vec<u8>),
     Measure(Vec<u8>),
@@ -23,51 +28,67 @@ pub enum Slip {
 }
 
 impl Slip {
-    /// The slip as a person would name it who sees the whole line: a CR at its end, or spaces in place of tabs.
+    /// The slip as a person would name it who sees the whole line.
     pub fn of_line(self, line: &[u8]) -> Slip {
-        if line.ends_with(b"\r") {
-            return Slip::Return;
-        }
         let has_spaces = match &self {
             Slip::NoTab => line.contains(&b' '),
             Slip::Verb(verb) => verb.contains(&b' '),
             Slip::Fields { found, wanted, .. } => found < wanted && line.contains(&b' '),
             _ => false,
         };
-        if has_spaces { Slip::Spaces } else { self }
+        match self {
+            _ if line.starts_with("\u{feff}".as_bytes()) => Slip::Mark,
+            _ if line.starts_with(b"#") => Slip::Comment,
+            _ if line.ends_with(b"\r") => Slip::Return,
+            Slip::NoTab if line.windows(3).any(|three| three == "→".as_bytes()) => Slip::Arrows,
+            _ if has_spaces => Slip::Spaces,
+            Slip::Verb(verb) if verb.is_empty() => Slip::TwoTabs,
+            Slip::Path { .. } | Slip::Measure(_) | Slip::GroupValue(_) if line.ends_with(b" ") => Slip::Blank,
+            slip => slip,
+        }
+    }
+
+    /// What is said of a slip that needs nothing of the line.
+    fn plain(&self) -> &'static str {
+        match self {
+            Slip::Empty => "the line is empty; every line has to be a call",
+            Slip::Mark => "the script begins with a byte order mark; save it as UTF-8 without one",
+            Slip::Comment => "there are no comments; every line has to be a call",
+            Slip::Return => "the line ends in a carriage return (byte 13): save the script with line ends of Unix",
+            Slip::Arrows => "here are arrows, which the documents print for tabs; write tabs",
+            Slip::Spaces => "the fields have to be parted by one tab each, and here are spaces",
+            Slip::NoTab => "there is no tab; the fields are subject, verb and path, parted by one tab each",
+            Slip::TwoTabs => "two tabs stand together where the verb should be; the fields are parted by one tab each",
+            Slip::Blank => "a space stands at the end of the line",
+            _ => "",
+        }
     }
 }
 
-/// How bytes of a line are shown: up to 40 of them, those that are not printed by their number.
+/// How bytes of a line are shown: as they are, or with numbers where they are no text; of long ones the beginning.
 fn shown(bytes: &[u8]) -> String {
-    let mut text: String = bytes.iter().take(40).flat_map(|byte| byte.escape_ascii()).map(char::from).collect();
-    if bytes.len() > 40 {
-        text += "...";
-    }
-    format!("'{text}'")
+    let text = match str::from_utf8(bytes) {
+        Ok(text) if !text.contains(char::is_control) => text.to_string(),
+        _ => bytes.escape_ascii().to_string(),
+    };
+    let first: String = text.chars().take(40).collect();
+    if first.len() < text.len() { format!("'{first}...'") } else { format!("'{first}'") }
 }
 
 impl fmt::Display for Slip {
     fn fmt(&self, out: &mut fmt::Formatter<'_>) -> fmt::Result {
         match self {
-            Slip::Empty => write!(out, "the line is empty; every line has to be a call"),
             Slip::Long => write!(out, "the line is over {LINE_BYTES_MAX} bytes long"),
-            Slip::Return => {
-                write!(out, "the line ends in a carriage return (byte 13): save the script with line ends of Unix")
-            }
-            Slip::Spaces => write!(out, "the fields have to be parted by one tab each, and here are spaces"),
-            Slip::NoTab => {
-                write!(out, "there is no tab; the fields are subject, verb and path, parted by one tab each")
-            }
             Slip::Verb(verb) => write!(out, "the verb is {}; it has to be V, I, U or D, in capitals", shown(verb)),
             Slip::Fields { verb, found, wanted } => write_fields(out, char::from(*verb), *found, *wanted),
             Slip::Subject(field) => {
                 write!(out, "the subject is {}; it has to be a number, a label from 0 to 31", shown(field))
             }
-            Slip::Step(step) => write!(
+            Slip::Path { whole, step } => write!(
                 out,
-                "the path has the step {}; a step is NAME:LABEL, two numbers without leading zeros, as 10:0, the name up to 65535; \
-                 steps are parted by /, and the root alone is /",
+                "the path {} has the step {}; a step is NAME:LABEL, two numbers without leading zeros, as 10:0, the name up to \
+                 65535; steps are parted by /, and the root alone is /",
+                shown(whole),
                 shown(step)
             ),
             Slip::Kind(kind) => write!(out, "the kind is {}; it has to be G, M or T, in capitals", shown(kind)),
@@ -78,9 +99,12 @@ impl fmt::Display for Slip {
                  without plus, point or leading zeros",
                 shown(value)
             ),
-            Slip::Text(value) => {
-                write!(out, "the text {} has a byte that is not printed; a text is of bytes 32 to 126", shown(value))
-            }
+            Slip::Text(value) => write!(
+                out,
+                "the text {} has a character that is not allowed; texts are of ASCII alone, from the space to ~",
+                shown(value)
+            ),
+            plain => out.write_str(plain.plain()),
         }
     }
 }
@@ -106,8 +130,11 @@ mod tests {
         let verb = |text: &[u8]| Slip::Verb(text.to_vec());
         assert_eq!(slip(b""), Slip::Empty);
         assert_eq!(slip(&[b'x'; 257]), Slip::Long);
+        assert_eq!(slip("\u{feff}0\tV\t/".as_bytes()), Slip::Mark);
+        assert_eq!(slip(b"# a comment"), Slip::Comment);
         assert_eq!(slip(b"0\tV\t/\r"), Slip::Return);
         assert_eq!(slip(b"\r"), Slip::Return);
+        assert_eq!(slip("0→V→/".as_bytes()), Slip::Arrows);
         assert_eq!(slip(b"0 V /"), Slip::Spaces);
         assert_eq!(slip(b"0\tI 1:0\tG\t-"), Slip::Spaces);
         assert_eq!(slip(b"0\tI\t1:0\tT NEW SEAM"), Slip::Spaces);
@@ -115,7 +142,7 @@ mod tests {
         assert_eq!(slip(b"0\tX\t1:0\tT\tNEW SEAM"), verb(b"X"));
         assert_eq!(slip(b"hello"), Slip::NoTab);
         assert_eq!(slip(b"0\tv\t/"), verb(b"v"));
-        assert_eq!(slip(b"0\t\t/"), verb(b""));
+        assert_eq!(slip(b"0\t\tV\t/"), Slip::TwoTabs);
         assert_eq!(slip(b"0\tV"), Slip::Fields { verb: b'V', found: 2, wanted: 3 });
         assert_eq!(slip(b"0\tI\t1:0\tG"), Slip::Fields { verb: b'I', found: 4, wanted: 5 });
         assert_eq!(slip(b"0\tV\t/\t"), Slip::Fields { verb: b'V', found: 4, wanted: 3 });
@@ -127,19 +154,42 @@ mod tests {
     fn paths_and_values_are_told_apart() {
         let steps: [&[u8]; 6] = [b"", b"10", b"010:0", b"65536:0", b"1:256", b"1:-0"];
         for step in steps {
-            assert_eq!(slip(&[b"0\tV\t", step].concat()), Slip::Step(step.to_vec()));
+            assert_eq!(slip(&[b"0\tV\t", step].concat()), Slip::Path { whole: step.to_vec(), step: step.to_vec() });
         }
-        assert_eq!(slip(b"0\tV\t10:0/"), Slip::Step(vec![]));
+        assert_eq!(slip(b"0\tV\t10:0/"), Slip::Path { whole: b"10:0/".to_vec(), step: vec![] });
+        assert_eq!(slip(b"0\tV\t/ "), Slip::Blank);
         assert_eq!(slip(b"0\tI\t1:0\tX\t-"), Slip::Kind(b"X".to_vec()));
         assert_eq!(slip(b"0\tI\t1:0\tG\t0"), Slip::GroupValue(b"0".to_vec()));
+        assert_eq!(slip(b"0\tI\t1:0\tM\t5 "), Slip::Blank);
         let measures: [&[u8]; 8] = [b"", b"-", b"-0", b"+1", b"01", b"1.5", b"2147483648", b"-2147483649"];
         for measure in measures {
             assert_eq!(slip(&[b"0\tI\t1:0\tM\t", measure].concat()), Slip::Measure(measure.to_vec()));
         }
         assert_eq!(slip(b"0\tI\t1:0\tT\tcaf\xc3\xa9"), Slip::Text(b"caf\xc3\xa9".to_vec()));
-        assert_eq!(
-            slip(b"0\tI\t1:0\tT\tx\x7f").to_string(),
-            r"the text 'x\x7f' has a byte that is not printed; a text is of bytes 32 to 126"
-        );
+    }
+
+    #[test]
+    fn bytes_are_shown_as_they_can_be() {
+        assert_eq!(shown(b"x\x7f"), r"'x\x7f'");
+        assert_eq!(shown("ÄRMEL".as_bytes()), "'ÄRMEL'");
+        assert_eq!(shown(b"\xff\t"), r"'\xff\t'");
+        assert_eq!(shown(&[b'9'; 60]), format!("'{}...'", "9".repeat(40)));
+    }
+
+    #[test]
+    fn each_slip_has_a_sentence() {
+        let lines: [&[u8]; 10] = [
+            b"",
+            &[b'x'; 257],
+            b"#",
+            b"\r",
+            b"0 V",
+            b"0",
+            b"0\t\t",
+            b"0\tV\t/ ",
+            "→".as_bytes(),
+            "\u{feff}".as_bytes(),
+        ];
+        assert!(lines.into_iter().all(|line| slip(line).to_string().len() > 20));
     }
 }

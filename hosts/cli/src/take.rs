@@ -7,6 +7,7 @@ use dossier::raw;
 use crate::arguments::Words;
 use crate::failure::{Done, Failure};
 use crate::files;
+use crate::refusals;
 use crate::shown::counted;
 
 /// Takes in the style of a file below a parent and saves the store.
@@ -16,7 +17,9 @@ pub fn take(words: &Words) -> Result<Done, Failure> {
     let mut opened = files::open_store(words)?;
     let bytes = opened.store_mut().as_mut_bytes();
     let answer = raw::insert_xml(bytes, subject.number(), parent.as_bytes(), style_of(&sent));
-    let count = answer.outcome().map_err(Failure::call)?;
+    let count = answer
+        .outcome()
+        .map_err(|error| Failure::call(error, |refusal| refusals::of_take(refusal, subject, &parent)))?;
     files::save(words, &mut opened)?;
     files::print(format!("{} taken in below {parent}\n", counted(count as usize, "element")).as_bytes())
 }

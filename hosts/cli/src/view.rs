@@ -26,7 +26,7 @@ enum Format {
 pub fn view(words: &Words) -> Result<Done, Failure> {
     let (subject, path, format) = (words.label("--as")?, words.path(1)?, format_of(words)?);
     let store = files::read_store(words)?;
-    let mut text = text(&store, subject, &path, format).map_err(Failure::call)?;
+    let mut text = text(&store, subject, &path, format).map_err(|error| Failure::view(error, subject, &path))?;
     if matches!(format, Format::Xml) && io::stdout().is_terminal() {
         text.push(b'\n');
     }
