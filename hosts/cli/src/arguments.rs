@@ -2,6 +2,7 @@
 
 use std::collections::HashMap;
 use std::ffi::{OsStr, OsString};
+use std::os::unix::ffi::OsStrExt;
 use std::str::FromStr;
 
 use dossier::file::Wait;
@@ -21,6 +22,14 @@ pub struct Words {
 pub fn asks(words: &[OsString], options: &[&str]) -> bool {
     let before = words.iter().take_while(|word| *word != "--");
     before.into_iter().any(|word| options.iter().any(|option| word == option))
+}
+
+/// An option's name, and its value where that is joined by `=`.
+fn parted(word: &OsStr) -> (String, Option<&OsStr>) {
+    let bytes = word.as_bytes();
+    let at = bytes.iter().position(|byte| *byte == b'=').unwrap_or(bytes.len());
+    let name = OsStr::from_bytes(&bytes[..at]).to_string_lossy().into_owned();
+    (name, bytes.get(at + 1..).map(OsStr::from_bytes))
 }
 
 impl Words {
@@ -48,15 +57,14 @@ impl Words {
         word: &OsStr,
         rest: &mut impl Iterator<Item = &'a OsString>,
     ) -> Result<(), Failure> {
-        let text = word.to_string_lossy();
-        let (name, joined) = text.split_once('=').map_or((&*text, None), |(name, value)| (name, Some(value)));
+        let (name, joined) = parted(word);
         let Some(option) = command.options.iter().find(|option| option.name == name) else {
             return Err(self.slip(&format!("there is no option '{name}'")));
         };
         let value = match (option.value, joined) {
             (None, None) => OsString::new(),
             (None, Some(_)) => return Err(self.slip(&format!("{name} takes no value"))),
-            (Some(_), Some(value)) => value.into(),
+            (Some(_), Some(value)) => value.to_owned(),
             (Some(what), None) => rest.next().cloned().ok_or_else(|| self.slip(&format!("{name} lacks its {what}")))?,
         };
         match self.options.insert(option.name, value) {
@@ -115,9 +123,13 @@ impl Words {
         self.parsed(self.option(option).unwrap_or_default(), "label")
     }
 
-    /// The path in a word, or the root.
+    /// The path in a word, or the root. A path may begin with `/`, as in a table of values.
     pub fn path(&self, at: usize) -> Result<Path, Failure> {
-        self.word(at).map_or(Ok(Path::root()), |word| self.parsed(word, "path"))
+        let word = self.word(at).unwrap_or(OsStr::new("/"));
+        match word.as_bytes().strip_prefix(b"/") {
+            Some(rest) if !rest.is_empty() => self.parsed(OsStr::from_bytes(rest), "path"),
+            _ => self.parsed(word, "path"),
+        }
     }
 
     /// What a word says.

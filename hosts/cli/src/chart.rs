@@ -1,10 +1,9 @@
 //! `dossier chart`: a page to print, with nothing on it that the view does not list.
 
 use std::fs;
-use std::os::unix::fs::MetadataExt;
 use std::path::Path as FilePath;
 
-use dossier::{Label, Path};
+use dossier::{Label, Path, STORE_BYTES};
 
 use crate::arguments::Words;
 use crate::date::Date;
@@ -16,6 +15,8 @@ use crate::shown::millimetres;
 
 /// How wide the bars' space is, in units of its drawing.
 const WIDE: i64 = 1000;
+/// The least width of a bar.
+const LEAST: i64 = 3;
 
 /// Writes the chart of what a label sees.
 pub fn chart(words: &Words) -> Result<Done, Failure> {
@@ -25,8 +26,8 @@ pub fn chart(words: &Words) -> Result<Done, Failure> {
         None => Date::today(),
     };
     let output = words.option("-o").unwrap_or_default();
-    if is_same(FilePath::new(output), FilePath::new(words.file())) {
-        return Err(words.slip("the page would be written over the store"));
+    if is_store(FilePath::new(output)) {
+        return Err(words.slip("the page would be written over a store"));
     }
     let store = files::read_store(words)?;
     let elements = element::elements(&store, subject, &path).map_err(|error| Failure::view(error, subject, &path))?;
@@ -37,12 +38,10 @@ pub fn chart(words: &Words) -> Result<Done, Failure> {
     fs::write(output, text).map(|()| Done::Well).map_err(|error| Failure::other(output, &error))
 }
 
-/// Whether two names lead to one file.
-fn is_same(one: &FilePath, other: &FilePath) -> bool {
-    match (fs::metadata(one), fs::metadata(other)) {
-        (Ok(one), Ok(other)) => (one.dev(), one.ino()) == (other.dev(), other.ino()),
-        _ => false,
-    }
+/// Whether a file may be a store: it has a store's length, and does not begin as a page does.
+fn is_store(file: &FilePath) -> bool {
+    let is_long = fs::metadata(file).is_ok_and(|about| about.is_file() && about.len() == STORE_BYTES as u64);
+    is_long && !fs::read(file).is_ok_and(|bytes| bytes.starts_with(b"<!DOCTYPE html>"))
 }
 
 /// The page: the tree with its texts, then the measures.
@@ -98,7 +97,7 @@ fn measures(elements: &[Element]) -> String {
     for (at, measure) in &measured {
         let common = Some(elements[*at].common());
         let class = row_class(versions[*at], common == before);
-        rows += &row(&elements[..=*at], &class, &bar(*measure, low, high));
+        rows += &row(&elements[*at], &place(elements, &versions, *at), &class, &bar(*measure, low, high));
         before = common;
     }
     let has_versions = measured.iter().any(|(at, _)| versions[*at] != Version::Only);
@@ -115,22 +114,24 @@ fn row_class(version: Version, is_further: bool) -> String {
     classes.into_iter().flatten().collect::<Vec<_>>().join(" ")
 }
 
-/// The row of the last of these elements, a measure.
-fn row(elements: &[Element], class: &str, bar: &str) -> String {
-    let Some(element) = elements.last() else {
-        return String::new();
+/// The row of a measure that stands at a place.
+fn row(element: &Element, place: &[String], class: &str, bar: &str) -> String {
+    let last = place.len().saturating_sub(1);
+    let step = |(at, step): (usize, &String)| {
+        tagged("span", "step", &if at < last { format!("{step} /") } else { step.clone() })
     };
-    let steps: Vec<String> = place(elements).iter().map(|step| tagged("span", "step", step)).collect();
+    let steps: Vec<String> = place.iter().enumerate().map(step).collect();
     let label = tagged("td", "label", &element.label.words());
     let value = tagged("td", "number", &element.content.measure().map_or(String::new(), millimetres));
-    format!("<tr class=\"{class}\"><td>{}</td>{label}{value}<td class=\"bars\">{bar}</td></tr>\n", steps.join(" / "))
+    format!("<tr class=\"{class}\"><td>{}</td>{label}{value}<td class=\"bars\">{bar}</td></tr>\n", steps.join(" "))
 }
 
-/// The bar of a measure, drawn from 0, in a space from the lowest to the highest.
+/// The bar of a measure, drawn from 0, in a space from the lowest to the highest. That of a measure other than 0 is seen.
 fn bar(measure: i64, low: i64, high: i64) -> String {
     let at = |number: i64| (number - low) * WIDE / (high - low).max(1);
-    let (zero, end) = (at(0), at(measure));
-    let (start, width) = (zero.min(end), (zero - end).abs());
+    let (zero, least) = (at(0), if measure == 0 { 0 } else { LEAST });
+    let width = (zero - at(measure)).abs().max(least);
+    let start = if measure < 0 { zero - width } else { zero };
     format!(
         "<svg viewBox=\"-3 0 {} 10\" preserveAspectRatio=\"none\" aria-hidden=\"true\"><rect x=\"{start}\" y=\"1\" width=\"{width}\" \
          height=\"8\"/><rect x=\"{}\" width=\"3\" height=\"10\"/></svg>",

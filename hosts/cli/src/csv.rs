@@ -1,12 +1,13 @@
 //! What a subject sees as comma separated values.
 
-use crate::element::{Content, Element, place};
+use crate::element::{Content, Element, place, versions};
 use crate::shown::millimetres;
 
 /// A line of heads and a line for each element. Measures are in millimetres.
 pub fn csv(elements: &[Element]) -> String {
     let heads = "path,depth,name,label,words,kind,millimetres,text,place\n".to_string();
-    (0..elements.len()).fold(heads, |text, at| text + &line(&elements[at], &place(&elements[..=at])))
+    let versions = versions(elements);
+    (0..elements.len()).fold(heads, |text, at| text + &line(&elements[at], &place(elements, &versions, at)))
 }
 
 /// The line of an element that stands at a place.
@@ -18,7 +19,7 @@ fn line(element: &Element, place: &[String]) -> String {
         Content::Group | Content::Removed => (String::new(), String::new()),
     };
     format!(
-        "{path},{},{name},{label},{},{},{measure},{text},{}\n",
+        "/{path},{},{name},{label},{},{},{measure},{text},{}\n",
         path.depth(),
         label.words(),
         content.kind(),

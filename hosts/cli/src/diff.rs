@@ -27,11 +27,7 @@ pub fn diff(words: &Words) -> Result<Done, Failure> {
     if more.is_empty() {
         return files::print(head.as_bytes());
     }
-    let row = |element: &&Element| {
-        let Element { path, label, content, .. } = element;
-        vec![path.to_string(), named(*label), content.kind().to_string(), content.shown()]
-    };
-    let rows: Vec<Vec<String>> = more.iter().map(row).collect();
+    let rows: Vec<Vec<String>> = more.iter().map(|element| table::row(element.path.to_string(), element)).collect();
     files::print(format!("{head}\n{}", table::columns(&["path", "label", "kind", "value"], &rows)).as_bytes())?;
     Ok(Done::Found)
 }

@@ -96,22 +96,20 @@ fn element(before: &Path, line: Line) -> Element {
     Element { path, name, label, content }
 }
 
-/// Where the last of these elements stands: itself and those above it that are listed, from the root on, each with its name, its
-/// text, if it is one, and whether it is removed.
-pub fn place(elements: &[Element]) -> Vec<String> {
+/// Where an element stands: those above it that are listed, from the root on, and itself, each with its name, its text, if it is
+/// one, and whether it is removed. Of one above it that is a version among others its label is told.
+pub fn place(elements: &[Element], versions: &[Version], at: usize) -> Vec<String> {
     let top = elements.first().map_or(0, |element| element.path.depth());
     let (mut names, mut depth) = (Vec::new(), usize::MAX);
-    for element in elements.iter().rev() {
+    for before in (0..=at).rev() {
+        let element = &elements[before];
         if depth == top {
             break;
         }
         if element.path.depth() < depth {
             depth = element.path.depth();
-            names.push(match &element.content {
-                Content::Text(text) => format!("{} {text}", element.name),
-                Content::Removed => format!("{} (removed)", element.name),
-                Content::Group | Content::Measure(_) => element.name.to_string(),
-            });
+            let is_told = before != at && versions[before] != Version::Only;
+            names.push(element.step_shown(is_told));
         }
     }
     names.reverse();
@@ -130,6 +128,17 @@ pub enum Version {
 }
 
 impl Element {
+    /// Its last step for people: the name, the text, if it is one, whether it is removed, and the label, if that is to be told.
+    fn step_shown(&self, is_label_told: bool) -> String {
+        let content = match &self.content {
+            Content::Text(text) => format!(" {text}"),
+            Content::Removed => " (removed)".to_string(),
+            Content::Group | Content::Measure(_) => String::new(),
+        };
+        let label = if is_label_told { format!(" [{}]", self.label.words()) } else { String::new() };
+        format!("{}{content}{label}", self.name)
+    }
+
     /// The path above it and its name: what versions have in common.
     pub fn common(&self) -> (Path, u16) {
         (self.path.prefix(self.path.depth().saturating_sub(1)), self.name)

@@ -18,16 +18,15 @@ const UNREAD: &str = "A ? 0: The line does not read as a call. Usual causes are 
 
 /// Explains a number, all numbers, or a script.
 pub fn explain(words: &Words) -> Result<Done, Failure> {
-    match words.word(0) {
-        None => {
-            let all: Vec<String> = Refusal::ALL.into_iter().map(of_refusal).collect();
-            files::print(format!("{UNREAD}\n{}", all.join("\n")).as_bytes())
-        }
-        Some(word) if word == "?" => files::print(UNREAD.as_bytes()),
-        Some(word) => match word.to_str().filter(|text| text.bytes().all(|byte| byte.is_ascii_digit())) {
-            Some(number) => explain_number(words, number),
-            None => explain_script(word),
-        },
+    let Some(word) = words.word(0) else {
+        let all: Vec<String> = Refusal::ALL.into_iter().map(of_refusal).collect();
+        return files::print(format!("{UNREAD}\n{}", all.join("\n")).as_bytes());
+    };
+    let is_number = |text: &&str| !text.is_empty() && text.bytes().all(|byte| byte.is_ascii_digit());
+    match word.to_str() {
+        Some("?") => files::print(UNREAD.as_bytes()),
+        Some(text) if is_number(&text) => explain_number(words, text),
+        _ => explain_script(word),
     }
 }
 
@@ -38,42 +37,65 @@ fn of_refusal(refusal: Refusal) -> String {
 }
 
 /// Explains a number.
-fn explain_number(words: &Words, number: &str) -> Result<Done, Failure> {
-    match number.parse() {
-        Ok(0) => files::print(b"0: The call is done.\n"),
-        Ok(number) => match Refusal::from_number(number) {
-            Some(refusal) => files::print(of_refusal(refusal).as_bytes()),
-            None => Err(words.slip(&format!("no call is refused by {number}"))),
-        },
-        Err(_) => Err(words.slip(&format!("no call is refused by {number}"))),
+fn explain_number(words: &Words, text: &str) -> Result<Done, Failure> {
+    let number = text.parse().ok();
+    if number == Some(0) {
+        return files::print(b"0: The call is done.\n");
+    }
+    match number.and_then(Refusal::from_number) {
+        Some(refusal) => files::print(of_refusal(refusal).as_bytes()),
+        None => Err(words.slip(&format!("no call is refused by {text}; a script of this name is ./{text}"))),
     }
 }
 
 /// Says what is wrong with the lines of a script.
 fn explain_script(word: &OsStr) -> Result<Done, Failure> {
-    let text = files::read_all(word)?;
-    let (mut lines, mut count, mut said) = (Lines::default(), 0, Vec::new());
-    let mut each = |line: &[u8]| {
-        count += 1;
-        said.extend(fault_of(line).map(|why| format!("line {count}: {why}\n")));
+    let (mut lines, mut examiner) = (Lines::default(), Examiner::new());
+    files::read_pieces(word, |piece| {
+        lines.take(piece, |line| examiner.examine(line));
+        files::print(&std::mem::take(&mut examiner.said)).map(|_| ())
+    })?;
+    lines.finish(|line| examiner.examine(line));
+    let (count, faults) = (counted(examiner.lines, "line"), examiner.faults);
+    let end = match faults {
+        0 => format!("{count}: nothing is wrong with how they are written\n"),
+        _ => format!("{count}, {faults} of them with a fault\n"),
     };
-    lines.take(&text, &mut each);
-    lines.finish(&mut each);
-    let end = match said.len() {
-        0 => format!("{}: nothing is wrong with how they are written\n", counted(count, "line")),
-        faults => format!("{}, {} of them with a fault\n", counted(count, "line"), faults),
-    };
-    files::print((said.concat() + &end).as_bytes())?;
-    Ok(if said.is_empty() { Done::Well } else { Done::Found })
+    files::print(&[examiner.said, end.into_bytes()].concat())?;
+    Ok(if faults == 0 { Done::Well } else { Done::Found })
 }
 
-/// Why a line does not read, or is refused on every store: on an empty one only the causes that look at the line alone come
-/// before those that look at what is in view.
-fn fault_of(line: &[u8]) -> Option<String> {
-    let call = match script::read_line(line) {
-        Ok(call) => call,
-        Err(slip) => return Some(format!("does not read: {slip}")),
-    };
-    let answer = call.carry_out(&mut vec![0; STORE_BYTES], &mut [0; 64]);
-    matches!(answer.number, 2 | 4 | 5 | 6).then(|| refusals::of_call(answer.number, &call))
+/// Lines that are examined, and what is said of them.
+struct Examiner {
+    store: Vec<u8>,
+    lines: usize,
+    faults: usize,
+    said: Vec<u8>,
+}
+
+impl Examiner {
+    /// One that has examined nothing yet, with an empty store.
+    fn new() -> Examiner {
+        Examiner { store: vec![0; STORE_BYTES], lines: 0, faults: 0, said: Vec::new() }
+    }
+
+    /// Examines a line.
+    fn examine(&mut self, line: &[u8]) {
+        self.lines += 1;
+        if let Some(why) = self.fault_of(line) {
+            self.faults += 1;
+            self.said.extend_from_slice(format!("line {}: {why}\n", self.lines).as_bytes());
+        }
+    }
+
+    /// Why a line does not read, or is refused on every store that is well formed: 2, 4, 5 and 6 are told by the line alone, before
+    /// anything is looked for in the store.
+    fn fault_of(&mut self, line: &[u8]) -> Option<String> {
+        let call = match script::read_line(line) {
+            Ok(call) => call,
+            Err(slip) => return Some(format!("does not read: {slip}")),
+        };
+        let answer = call.carry_out(&mut self.store, &mut [0; 64]);
+        matches!(answer.number, 2 | 4 | 5 | 6).then(|| refusals::of_call(answer.number, &call))
+    }
 }

@@ -1,7 +1,7 @@
 //! Files and standard output, as the commands use them.
 
 use std::ffi::OsStr;
-use std::fs;
+use std::fs::{self, File};
 use std::io::{self, ErrorKind, IsTerminal, Read, Write};
 use std::path::Path;
 
@@ -53,13 +53,43 @@ pub fn read_all(word: &OsStr) -> Result<Vec<u8>, Failure> {
     read.map_err(|error| Failure::other(word, &error))
 }
 
+/// Hands on the pieces of a file, or of standard input where the word is a dash, as they are read.
+pub fn read_pieces(word: &OsStr, mut each: impl FnMut(&[u8]) -> Result<(), Failure>) -> Result<(), Failure> {
+    let failed = |error: io::Error| Failure::other(word, &error);
+    let mut source: Box<dyn Read> =
+        if word == "-" { Box::new(io::stdin()) } else { Box::new(File::open(word).map_err(failed)?) };
+    let mut piece = vec![0; 65_536];
+    loop {
+        match source.read(&mut piece) {
+            Ok(0) => return Ok(()),
+            Ok(count) => each(&piece[..count])?,
+            Err(error) if error.kind() == ErrorKind::Interrupted => {}
+            Err(error) => return Err(failed(error)),
+        }
+    }
+}
+
 /// Writes all to standard output. Where nobody reads it any more, nothing is lost.
 pub fn print(text: &[u8]) -> Result<Done, Failure> {
+    write_out(text).map(|()| Done::Well).map_err(|error| unprinted(&error, false))
+}
+
+/// Writes to standard output what was done to a store that is saved.
+pub fn print_saved(text: &[u8]) -> Result<Done, Failure> {
+    write_out(text).map(|()| Done::Well).map_err(|error| unprinted(&error, true))
+}
+
+/// Writes all to standard output, if there is somebody to read it.
+fn write_out(text: &[u8]) -> io::Result<()> {
     let mut output = io::stdout().lock();
     match output.write_all(text).and_then(|()| output.flush()) {
-        Err(error) if error.kind() != ErrorKind::BrokenPipe => {
-            Err(Failure::other(OsStr::new("standard output"), &error))
-        }
-        _ => Ok(Done::Well),
+        Err(error) if error.kind() == ErrorKind::BrokenPipe => Ok(()),
+        written => written,
     }
+}
+
+/// Standard output could not be written. Whether the store is saved is told where it may have changed.
+pub fn unprinted(error: &io::Error, is_saved: bool) -> Failure {
+    let saved = if is_saved { "; the store is saved" } else { "" };
+    Failure::File(format!("standard output: {error}{saved}\n"))
 }

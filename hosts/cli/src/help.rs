@@ -2,6 +2,10 @@
 
 use std::ffi::OsStr;
 
+use crate::arguments::Words;
+use crate::failure::{Done, Failure};
+use crate::{chart, diff, explain, migrate, new, owner, run, take, view};
+
 /// An option of a command.
 pub struct CommandOption {
     /// Its name, with its dashes.
@@ -24,6 +28,8 @@ pub struct Command {
     pub least: usize,
     /// Its options.
     pub options: &'static [CommandOption],
+    /// What carries it out.
+    pub carry_out: fn(&Words) -> Result<Done, Failure>,
     /// What it does, in a line.
     line: &'static str,
     /// What it does, in full.
@@ -52,6 +58,7 @@ const COMMANDS: [Command; 9] = [
         words: &["FILE"],
         least: 1,
         options: &[],
+        carry_out: new::new,
         line: "make an empty store; refuses to overwrite",
         about: "Makes FILE with an empty store of 41,088 bytes, readable by its owner alone. A file that is there\n\
                 already is not touched.\n",
@@ -65,6 +72,7 @@ const COMMANDS: [Command; 9] = [
             flag("--strict", "end with 1 if a line was refused or did not read"),
             NO_WAIT,
         ],
+        carry_out: run::run,
         line: "carry out a script of calls on a store in a file",
         about: "Carries out the calls of SCRIPT, or of standard input where it is left out or -, on the store in\n\
                 FILE, and prints what each answers. The store is saved at the end, all at once, if it has changed.\n\
@@ -79,6 +87,7 @@ const COMMANDS: [Command; 9] = [
             valued("--format", "FORMAT", false, "lines, table, csv, html or xml; table if it is left out"),
             NO_WAIT,
         ],
+        carry_out: view::view,
         line: "show what a label sees",
         about: "Shows PATH, as 10:0/20:16, and all below it that the label sees; without PATH, the whole tree.\n\
                 lines and xml are the bytes that the calls write, measures in hundredths of a millimetre; table,\n\
@@ -89,6 +98,7 @@ const COMMANDS: [Command; 9] = [
         words: &["FILE", "PATH"],
         least: 1,
         options: &[AS, valued("--than", "LABEL", true, "the other subject"), NO_WAIT],
+        carry_out: diff::diff,
         line: "show what one label sees and another does not",
         about: "Lists the elements at and below PATH that --as sees and --than does not. It ends with 1 if there\n\
                 are any. Of two labels of which neither dominates the other, each may see what the other does not:\n\
@@ -104,6 +114,7 @@ const COMMANDS: [Command; 9] = [
             valued("--date", "YYYY-MM-DD", false, "the date on the page; today's (UTC) if it is left out"),
             NO_WAIT,
         ],
+        carry_out: chart::chart,
         line: "write a page to print",
         about: "Writes one HTML page that needs no other file, for A4 and Letter: the tree with its texts, and a\n\
                 table of measures in millimetres with a bar each. It holds nothing that the label does not see.\n",
@@ -113,6 +124,7 @@ const COMMANDS: [Command; 9] = [
         words: &["FILE", "PARENT", "STYLE.xml"],
         least: 3,
         options: &[AS, NO_WAIT],
+        carry_out: take::take,
         line: "take in a style sent as XML",
         about: "Puts the style, one XML element as dossier view --format xml writes it, below PARENT (/ is the\n\
                 root): all of its elements or none. An outer dossier tag and a last line end are left off. Each\n\
@@ -123,6 +135,7 @@ const COMMANDS: [Command; 9] = [
         words: &["FILE"],
         least: 1,
         options: &[NO_WAIT],
+        carry_out: migrate::migrate,
         line: "bring a store that was written before the path order changed into the order of now",
         about: "For the file's owner, once, before calls resume: brings a store that was written before the path\n\
                 order changed (request 7/14) into the order of now, and says of the partitions that were left\n\
@@ -134,6 +147,7 @@ const COMMANDS: [Command; 9] = [
         words: &["FILE"],
         least: 1,
         options: &[NO_WAIT],
+        carry_out: owner::check,
         line: "count each label's elements and find broken partitions",
         about: "For the file's owner: for each label its elements, its free slots, and whether its partition is\n\
                 well formed. It ends with 1 if one is not.\n",
@@ -143,10 +157,12 @@ const COMMANDS: [Command; 9] = [
         words: &["NUMBER | SCRIPT"],
         least: 0,
         options: &[],
+        carry_out: explain::explain,
         line: "say what a refusal means, or what is wrong with a script",
         about: "Of a NUMBER says what the refusal means and what to do about it; without a word, of all. Of a\n\
                 SCRIPT (- is standard input) says for each line why it does not read, or by which number it is\n\
-                refused on any store; it ends with 1 if there is such a line. No store is looked at.\n",
+                refused on any store that is well formed; it ends with 1 if there is such a line. No store is\n\
+                looked at.\n",
     },
 ];
 

@@ -24,16 +24,16 @@ th { border-bottom: 1px solid #000; font-weight: 600; }
 td { border-bottom: 1px solid #ccc; }
 tr { break-inside: avoid; }
 .name { font-weight: 600; font-variant-numeric: tabular-nums; }
-.label { font-size: .82em; color: #444; white-space: nowrap; }
+.label { font-size: .82em; white-space: nowrap; }
 .removed, .group { font-style: italic; }
 .number { text-align: right; white-space: nowrap; font-variant-numeric: tabular-nums; }
 .text, .value { white-space: pre-wrap; }
 .step { white-space: pre; }
 .highest .number, .highest .step:last-child { font-weight: 700; }
 .further { break-before: avoid; }
-.bars { width: 30%; padding-right: 0; vertical-align: middle; }
-.bars svg { display: block; width: 100%; height: .72rem; }
-@media print { body { padding: 0; max-width: none; } .label { color: #000; } }
+.bars { width: 30%; padding-right: 0; vertical-align: top; }
+.bars svg { display: block; width: 100%; height: .72rem; margin-top: .3rem; }
+@media print { body { padding: 0; max-width: none; } }
 ";
 
 /// A text in HTML.
@@ -100,7 +100,7 @@ pub fn view(subject: Label, path: &Path, elements: &[Element]) -> String {
 /// A row of the table.
 fn row(top: &Path, element: &Element) -> String {
     let Element { path, name, label, content } = element;
-    let indent = path.depth().saturating_sub(top.depth().max(1)) * 3 / 2;
+    let indent = 1.5 * path.depth().saturating_sub(top.depth().max(1)) as f32;
     let cells = [
         tagged("td", "label", &named(*label)),
         format!("<td>{}</td>", content.kind()),

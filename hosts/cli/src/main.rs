@@ -32,7 +32,6 @@ use std::process::ExitCode;
 
 use arguments::Words;
 use failure::{Done, Failure};
-use help::Command;
 
 fn main() -> ExitCode {
     let words: Vec<OsString> = env::args_os().skip(1).collect();
@@ -61,20 +60,5 @@ fn dispatch(words: &[OsString]) -> Result<Done, Failure> {
     if arguments::asks(rest, &["--version", "-V"]) {
         return files::print(help::version().as_bytes());
     }
-    carry_out(command, &Words::read(command, rest)?)
-}
-
-/// Carries out a command.
-fn carry_out(command: &Command, words: &Words) -> Result<Done, Failure> {
-    match command.name {
-        "new" => new::new(words),
-        "run" => run::run(words),
-        "view" => view::view(words),
-        "diff" => diff::diff(words),
-        "chart" => chart::chart(words),
-        "take" => take::take(words),
-        "migrate" => migrate::migrate(words),
-        "check" => owner::check(words),
-        _ => explain::explain(words),
-    }
+    (command.carry_out)(&Words::read(command, rest)?)
 }

@@ -21,7 +21,7 @@ pub fn migrate(words: &Words) -> Result<Done, Failure> {
         if matches!(kept, State::WellFormed(_)) { served.push(label) } else { broken.push(label) }
     }
     files::save(words, &mut opened)?;
-    files::print(told(mask.bits(), &moved, &served, &broken).as_bytes())?;
+    files::print_saved(told(mask.bits(), &moved, &served, &broken).as_bytes())?;
     Ok(if broken.is_empty() { Done::Well } else { Done::Found })
 }
 

@@ -18,9 +18,9 @@ pub struct Progress {
 }
 
 impl Progress {
-    /// Of a script of this many bytes, where that is known.
-    pub fn new(whole: Option<u64>) -> Progress {
-        let is_told = io::stderr().is_terminal();
+    /// Of a script of this many bytes, where that is known. Where it is typed nothing is told.
+    pub fn new(whole: Option<u64>, is_typed: bool) -> Progress {
+        let is_told = io::stderr().is_terminal() && !is_typed;
         Progress { is_told, is_shown: false, due: Instant::now() + PATIENCE, whole: whole.filter(|whole| *whole > 0) }
     }
 

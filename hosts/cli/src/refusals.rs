@@ -6,60 +6,71 @@ use dossier::{Label, Path, Refusal};
 use crate::script::{Call, OUTPUT_BYTES, Step, Verb};
 use crate::shown::named;
 
-/// What each refusal means, and what to do about it, in the order of their numbers.
-const MEANINGS: [(&str, &str); Refusal::ALL.len()] = [
+/// What each refusal means, and what to do about it.
+const MEANINGS: [(Refusal, &str, &str); Refusal::ALL.len()] = [
     (
+        Refusal::StoreLength,
         "The store is not 41,088 bytes long.",
         "Lend a store's bytes, all of them. dossier new makes a file with an empty one.",
     ),
-    ("The subject is no label.", "A label is a number from 0 to 31: level x 8 + compartments."),
+    (Refusal::Subject, "The subject is no label.", "A label is a number from 0 to 31: level x 8 + compartments."),
     (
+        Refusal::NotWellFormed,
         "A partition that the subject dominates is not well formed.",
         "The store's owner looks with dossier check. One that was written before the path order changed is brought into the \
          order of now by dossier migrate; a broken one has to come from a copy that was kept.",
     ),
     (
+        Refusal::Path,
         "The path is not valid.",
         "It has one to six steps with names from 1 to 65535 and labels from 0 to 31, each label dominating the one before. The \
          root alone, /, may be viewed and be the parent of a style; nothing else may be done with it.",
     ),
     (
+        Refusal::Value,
         "The value is not allowed.",
         "A group has none; a measure is a whole number of 32 bits with a sign; a text has 1 to 16 characters of ASCII, bytes 32 \
          to 126.",
     ),
     (
+        Refusal::OtherLabel,
         "The path does not end in the subject's label.",
         "A subject writes elements of its own label alone: end the path in that label, or make the call under the path's.",
     ),
     (
+        Refusal::Absent,
         "What the call needs is not there for this subject.",
         "A view, a grade and the parent of a style need a path in view. An insert needs its parent in view, or missing steps that \
          all bear the subject's label. An update and a delete need a live element. Whether something is hidden or missing is not \
          told.",
     ),
-    ("The element is live already.", "Change its value by an update, or delete it first."),
+    (Refusal::Live, "The element is live already.", "Change its value by an update, or delete it first."),
     (
+        Refusal::Full,
         "The label's partition has no room.",
         "It holds at most 32 elements, missing groups counted: delete some of this label, or divide them among labels.",
     ),
     (
+        Refusal::OutputShort,
         "The output is too short for the view.",
         "In a script it has 16,384 bytes: view a path further down, or use dossier view, which has room for every view. A host \
          lends a longer output.",
     ),
-    ("The number of sizes of a grade is not 1 to 64.", "Give another number of sizes."),
+    (Refusal::Sizes, "The number of sizes of a grade is not 1 to 64.", "Give another number of sizes."),
     (
+        Refusal::NoMeasure,
         "A path of the grade is in view and is no live measure's.",
         "Give two live measures: no group, text, removed element or root.",
     ),
     (
+        Refusal::Form,
         "The XML is not in form.",
         "It has to be one element, byte for byte as dossier view --format xml PATH writes it inside the dossier tag, siblings in any \
          order: no white space between tags, no declaration, values that are allowed, six steps at most with the parent's, no two \
          siblings equal in name and label.",
     ),
     (
+        Refusal::NotOwn,
         "An element of the XML bears another label than the subject's, or is marked REMOVED.",
         "Send the style under its own label, and only what is PRESENT.",
     ),
@@ -67,7 +78,8 @@ const MEANINGS: [(&str, &str); Refusal::ALL.len()] = [
 
 /// What a refusal means, and what to do about it.
 pub fn meaning(refusal: Refusal) -> (&'static str, &'static str) {
-    MEANINGS[refusal.number() as usize - 1]
+    let row = MEANINGS.iter().find(|(this, _, _)| *this == refusal);
+    row.map_or(("", ""), |(_, cause, advice)| (cause, advice))
 }
 
 /// A refusal, with all that can be said of any call.
@@ -105,7 +117,7 @@ pub fn of_call(number: u32, call: &Call) -> String {
 
 /// The cause of a refusal, for this call.
 fn cause(refusal: Refusal, call: &Call) -> String {
-    let (subject, path) = (subject_of(call), call.path_text());
+    let (subject, path) = (label_named(call.subject), call.path_text());
     match refusal {
         Refusal::Subject => format!("subject {subject} is no label; labels are 0 to 31"),
         Refusal::NotWellFormed => {
@@ -116,7 +128,7 @@ fn cause(refusal: Refusal, call: &Call) -> String {
         Refusal::Path => path_cause(call),
         Refusal::Value => value_cause(call),
         Refusal::OtherLabel => {
-            let last = call.steps.last().map_or(String::new(), |step| label_named(step.label));
+            let last = call.steps.last().map_or(String::new(), |step| label_named(step.label.into()));
             format!(
                 "{path} ends in label {last}, and the subject is {subject}: a subject writes elements of its own label alone"
             )
@@ -134,13 +146,8 @@ fn cause(refusal: Refusal, call: &Call) -> String {
 }
 
 /// A label's number and words, or the number of what is no label.
-fn label_named(number: u8) -> String {
-    Label::from_number(number.into()).map_or(number.to_string(), named)
-}
-
-/// The subject, in numbers and words.
-fn subject_of(call: &Call) -> String {
-    Label::from_number(call.subject).map_or(call.subject.to_string(), named)
+fn label_named(number: u32) -> String {
+    Label::from_number(number).map_or(number.to_string(), named)
 }
 
 /// What is wrong with a path: the first cause that applies.
@@ -185,12 +192,24 @@ fn value_cause(call: &Call) -> String {
 
 /// What is not there.
 fn absent_cause(call: &Call) -> String {
-    let (subject, path) = (subject_of(call), call.path_text());
+    let (subject, path) = (label_named(call.subject), call.path_text());
     match call.verb {
         Verb::View => format!("{path} is not in view of {subject}"),
         Verb::Insert(_) => format!(
             "the parent of {path} is not in view of {subject}, and a missing step that bears another label is not made"
         ),
         Verb::Update(_) | Verb::Delete => format!("{path} is not live"),
+    }
+}
+
+#[cfg(test)]
+mod tests {
+    use super::*;
+
+    #[test]
+    fn each_refusal_has_a_meaning() {
+        assert!(
+            Refusal::ALL.into_iter().all(|refusal| !meaning(refusal).0.is_empty() && !meaning(refusal).1.is_empty())
+        );
     }
 }

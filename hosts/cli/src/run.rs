@@ -23,12 +23,15 @@ pub fn run(words: &Words) -> Result<Done, Failure> {
     let mut source = Source::open(words.word(1))?;
     let mut opened = files::open_store(words)?;
     source.greet();
-    let mut runner = Runner::new(opened.store_mut(), words.has("--explain"), source.length());
+    let progress = Progress::new(source.length(), source.is_typed());
+    let mut runner = Runner::new(opened.store_mut(), words.has("--explain"), progress);
     let read = runner.carry_out_all(&mut source);
     let (faults, written) = (runner.faults, runner.output.finish());
     files::save(words, &mut opened)?;
-    read.map_err(|error| Failure::other(source.name(), &error))?;
-    written.map_err(|error| Failure::other(OsStr::new("standard output"), &error))?;
+    read.map_err(|error| {
+        Failure::File(format!("{}: {error}; what was carried out is saved\n", source.name().display()))
+    })?;
+    written.map_err(|error| files::unprinted(&error, true))?;
     Ok(if words.has("--strict") && faults > 0 { Done::Found } else { Done::Well })
 }
 
@@ -65,9 +68,14 @@ impl<'a> Source<'a> {
         }
     }
 
+    /// Whether a person types it.
+    fn is_typed(&self) -> bool {
+        matches!(self, Source::Standard) && io::stdin().is_terminal()
+    }
+
     /// Tells a person who is to type the script that it is waited for.
     fn greet(&self) {
-        if matches!(self, Source::Standard) && io::stdin().is_terminal() {
+        if self.is_typed() {
             eprint_all("calls are read from the terminal; Ctrl-D on a line of its own ends them and saves\n");
         }
     }
@@ -121,8 +129,8 @@ struct Runner<'a> {
 
 impl<'a> Runner<'a> {
     /// One that has carried out nothing yet.
-    fn new(store: &'a mut Store<'static>, is_explained: bool, bytes: Option<u64>) -> Runner<'a> {
-        let (space, output, progress) = (Box::new([0; OUTPUT_BYTES]), Output::default(), Progress::new(bytes));
+    fn new(store: &'a mut Store<'static>, is_explained: bool, progress: Progress) -> Runner<'a> {
+        let (space, output) = (Box::new([0; OUTPUT_BYTES]), Output::default());
         Runner { store, space, output, progress, is_explained, lines: 0, faults: 0 }
     }
 

@@ -85,7 +85,7 @@ pub fn read_line(line: &[u8]) -> Result<Call, Slip> {
 }
 
 /// Reads the fields of a line, which are parted by tabs.
-fn read_fields(line: &[u8]) -> Result<Call, Slip> {
+pub fn read_fields(line: &[u8]) -> Result<Call, Slip> {
     let fields: Vec<&[u8]> = line.split(|byte| *byte == b'\t').collect();
     let wanted = match fields.get(1) {
         Some(&(b"V" | b"D")) => 3,

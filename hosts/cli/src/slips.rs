@@ -2,7 +2,7 @@
 
 use std::fmt;
 
-use crate::script::LINE_BYTES_MAX;
+use crate::script::{self, LINE_BYTES_MAX};
 
 /// Why a line does not read.
 #[derive(Clone, Debug, PartialEq, Eq)]
@@ -30,20 +30,18 @@ pub enum Slip {
 impl Slip {
     /// The slip as a person would name it who sees the whole line.
     pub fn of_line(self, line: &[u8]) -> Slip {
-        let has_spaces = match &self {
-            Slip::NoTab => line.contains(&b' '),
-            Slip::Verb(verb) => verb.contains(&b' '),
-            Slip::Fields { found, wanted, .. } => found < wanted && line.contains(&b' '),
-            _ => false,
-        };
         match self {
             _ if line.starts_with("\u{feff}".as_bytes()) => Slip::Mark,
             _ if line.starts_with(b"#") => Slip::Comment,
             _ if line.ends_with(b"\r") => Slip::Return,
             Slip::NoTab if line.windows(3).any(|three| three == "→".as_bytes()) => Slip::Arrows,
-            _ if has_spaces => Slip::Spaces,
-            Slip::Verb(verb) if verb.is_empty() => Slip::TwoTabs,
-            Slip::Path { .. } | Slip::Measure(_) | Slip::GroupValue(_) if line.ends_with(b" ") => Slip::Blank,
+            Slip::NoTab | Slip::Verb(_) | Slip::Fields { .. } if reads_with_tabs(line) => Slip::Spaces,
+            Slip::Verb(verb) if verb.is_empty() && line.windows(2).any(|two| two == b"\t\t") => Slip::TwoTabs,
+            Slip::Path { whole: field, .. } | Slip::Measure(field) | Slip::GroupValue(field)
+                if field.ends_with(b" ") =>
+            {
+                Slip::Blank
+            }
             slip => slip,
         }
     }
@@ -52,7 +50,7 @@ impl Slip {
     fn plain(&self) -> &'static str {
         match self {
             Slip::Empty => "the line is empty; every line has to be a call",
-            Slip::Mark => "the script begins with a byte order mark; save it as UTF-8 without one",
+            Slip::Mark => "the line begins with a byte order mark; save the script as UTF-8 without one",
             Slip::Comment => "there are no comments; every line has to be a call",
             Slip::Return => "the line ends in a carriage return (byte 13): save the script with line ends of Unix",
             Slip::Arrows => "here are arrows, which the documents print for tabs; write tabs",
@@ -65,10 +63,23 @@ impl Slip {
     }
 }
 
+/// Whether a line reads once tabs stand in place of its first spaces.
+fn reads_with_tabs(line: &[u8]) -> bool {
+    let words: Vec<&[u8]> = line.split(|byte| *byte == b' ').filter(|word| !word.is_empty()).collect();
+    let reads = |tabs: usize| {
+        let (first, rest) = words.split_at(tabs.min(words.len()));
+        let joined = [first.join(&b'\t'), rest.join(&b' ')].join(&b'\t');
+        words.len() > tabs && script::read_fields(&joined).is_ok()
+    };
+    (1..5).any(reads)
+}
+
 /// How bytes of a line are shown: as they are, or with numbers where they are no text; of long ones the beginning.
 fn shown(bytes: &[u8]) -> String {
     let text = match str::from_utf8(bytes) {
-        Ok(text) if !text.contains(char::is_control) => text.to_string(),
+        Ok(text) if text.chars().all(|letter| letter.is_alphanumeric() || (' '..='~').contains(&letter)) => {
+            text.to_string()
+        }
         _ => bytes.escape_ascii().to_string(),
     };
     let first: String = text.chars().take(40).collect();
@@ -82,12 +93,16 @@ impl fmt::Display for Slip {
             Slip::Verb(verb) => write!(out, "the verb is {}; it has to be V, I, U or D, in capitals", shown(verb)),
             Slip::Fields { verb, found, wanted } => write_fields(out, char::from(*verb), *found, *wanted),
             Slip::Subject(field) => {
-                write!(out, "the subject is {}; it has to be a number, a label from 0 to 31", shown(field))
+                write!(
+                    out,
+                    "the subject is {}; it has to be a label's number from 0 to 31, without leading zeros",
+                    shown(field)
+                )
             }
             Slip::Path { whole, step } => write!(
                 out,
                 "the path {} has the step {}; a step is NAME:LABEL, two numbers without leading zeros, as 10:0, the name up to \
-                 65535; steps are parted by /, and the root alone is /",
+                 65535 and the label up to 31; steps are parted by /, and the root alone is /",
                 shown(whole),
                 shown(step)
             ),
@@ -140,6 +155,9 @@ mod tests {
         assert_eq!(slip(b"0\tI\t1:0\tT NEW SEAM"), Slip::Spaces);
         assert_eq!(slip(b"0\tI\t1:0\tT\tNEW SEAM\t"), Slip::Fields { verb: b'I', found: 6, wanted: 5 });
         assert_eq!(slip(b"0\tX\t1:0\tT\tNEW SEAM"), verb(b"X"));
+        assert_eq!(slip(b"0  I  1:0  T  NEW SEAM"), Slip::Spaces);
+        assert_eq!(slip(b"0\tI\t1:0\tNEW SEAM"), Slip::Fields { verb: b'I', found: 4, wanted: 5 });
+        assert_eq!(slip(b"0\t"), verb(b""));
         assert_eq!(slip(b"hello"), Slip::NoTab);
         assert_eq!(slip(b"0\tv\t/"), verb(b"v"));
         assert_eq!(slip(b"0\t\tV\t/"), Slip::TwoTabs);
@@ -158,6 +176,7 @@ mod tests {
         }
         assert_eq!(slip(b"0\tV\t10:0/"), Slip::Path { whole: b"10:0/".to_vec(), step: vec![] });
         assert_eq!(slip(b"0\tV\t/ "), Slip::Blank);
+        assert!(matches!(slip(b"0\tI\t010:0\tT\tABC "), Slip::Path { .. }));
         assert_eq!(slip(b"0\tI\t1:0\tX\t-"), Slip::Kind(b"X".to_vec()));
         assert_eq!(slip(b"0\tI\t1:0\tG\t0"), Slip::GroupValue(b"0".to_vec()));
         assert_eq!(slip(b"0\tI\t1:0\tM\t5 "), Slip::Blank);
@@ -173,6 +192,7 @@ mod tests {
         assert_eq!(shown(b"x\x7f"), r"'x\x7f'");
         assert_eq!(shown("ÄRMEL".as_bytes()), "'ÄRMEL'");
         assert_eq!(shown(b"\xff\t"), r"'\xff\t'");
+        assert_eq!(shown("x\u{202e}y".as_bytes()), r"'x\xe2\x80\xaey'");
         assert_eq!(shown(&[b'9'; 60]), format!("'{}...'", "9".repeat(40)));
     }
 

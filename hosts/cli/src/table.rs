@@ -21,13 +21,18 @@ pub fn columns(heads: &[&str], rows: &[Vec<String>]) -> String {
     std::iter::once(&heads).chain(rows).map(line).collect()
 }
 
+/// The row of an element, behind how it is called.
+pub fn row(name: String, element: &Element) -> Vec<String> {
+    let Element { label, content, .. } = element;
+    vec![name, named(*label), content.kind().to_string(), content.shown()]
+}
+
 /// What a subject sees, as a tree: an element below another is indented.
 pub fn tree(subject: Label, path: &Path, elements: &[Element]) -> String {
     let top = path.depth().max(1);
     let row = |element: &Element| {
         let indent = "  ".repeat(element.path.depth().saturating_sub(top));
-        let Element { name, label, content, .. } = element;
-        vec![format!("{indent}{name}"), named(*label), content.kind().to_string(), content.shown()]
+        row(format!("{indent}{}", element.name), element)
     };
     let rows: Vec<Vec<String>> = elements.iter().map(row).collect();
     let head = format!("{} sees {} at and below {path}\n", named(subject), counted(elements.len(), "element"));

@@ -1,7 +1,5 @@
 //! `dossier take`: a style taken in.
 
-use std::ffi::OsStr;
-
 use dossier::raw;
 
 use crate::arguments::Words;
@@ -13,7 +11,7 @@ use crate::shown::counted;
 /// Takes in the style of a file below a parent and saves the store.
 pub fn take(words: &Words) -> Result<Done, Failure> {
     let (subject, parent) = (words.label("--as")?, words.path(1)?);
-    let sent = files::read_all(words.word(2).unwrap_or(OsStr::new("-")))?;
+    let sent = files::read_all(words.word(2).unwrap_or_default())?;
     let mut opened = files::open_store(words)?;
     let bytes = opened.store_mut().as_mut_bytes();
     let answer = raw::insert_xml(bytes, subject.number(), parent.as_bytes(), style_of(&sent));
@@ -21,7 +19,7 @@ pub fn take(words: &Words) -> Result<Done, Failure> {
         .outcome()
         .map_err(|error| Failure::call(error, |refusal| refusals::of_take(refusal, subject, &parent)))?;
     files::save(words, &mut opened)?;
-    files::print(format!("{} taken in below {parent}\n", counted(count as usize, "element")).as_bytes())
+    files::print_saved(format!("{} taken in below {parent}\n", counted(count as usize, "element")).as_bytes())
 }
 
 /// The style in a file: without a last line end, and without the dossier tag, if it stands in one as a view writes it.

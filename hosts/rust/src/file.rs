@@ -12,7 +12,7 @@ use std::io::{self, ErrorKind, Read, Write};
 use std::os::unix::fs::{fchown, FileExt, MetadataExt, OpenOptionsExt};
 use std::path::{Path, PathBuf};
 
-use crate::{Store, STORE_BYTES};
+use crate::{access_list, Store, STORE_BYTES};
 
 /// The mode of a file that is made: its owner's alone, since it holds the texts of every label.
 const OWNER_ALONE: u32 = 0o600;
@@ -80,17 +80,17 @@ impl std::error::Error for FileError {
     }
 }
 
-/// Makes a file with an empty store, its owner's alone. No file is overwritten.
+/// Makes a file with an empty store, its owner's alone. No file is overwritten: a new file beside it is filled and then linked to
+/// the name, which the system refuses where there is one.
 pub fn create(path: &Path) -> Result<(), FileError> {
-    let mut file = match OpenOptions::new().read(true).write(true).create_new(true).mode(OWNER_ALONE).open(path) {
-        Err(error) if error.kind() == ErrorKind::AlreadyExists => return Err(FileError::Exists),
-        opened => opened.map_err(FileError::Save)?,
-    };
-    let filled = file.lock().map_err(FileError::Lock).and_then(|()| fill(&mut file, &[0; STORE_BYTES]).map_err(FileError::Save));
-    if filled.is_err() {
-        let _ = fs::remove_file(path);
+    let (mut file, new_name) = new_beside(path).map_err(FileError::Save)?;
+    let made = fill(&mut file, &[0; STORE_BYTES]).and_then(|()| fs::hard_link(&new_name, path));
+    let _ = fs::remove_file(&new_name);
+    match made {
+        Err(error) if error.kind() == ErrorKind::AlreadyExists => Err(FileError::Exists),
+        Err(error) => Err(FileError::Save(error)),
+        Ok(()) => sync_folder(path),
     }
-    filled.and_then(|()| sync_folder(path))
 }
 
 /// Reads the store of a file under a shared lock, which is let go at once: the bytes are the caller's.
@@ -149,22 +149,21 @@ impl StoreFile {
     /// Fills the new file, which is locked before anybody can find it, and gives it the store's name.
     fn replace(&self, new: &mut File, new_name: &Path) -> Result<(), FileError> {
         lock(new, Access::Alone, Wait::No)?;
-        let about = self.file.metadata().map_err(FileError::Save)?;
-        set_rights(new, &about).and_then(|()| fill(new, self.store.as_bytes())).map_err(FileError::Save)?;
+        set_rights(new, &self.file).and_then(|()| fill(new, self.store.as_bytes())).map_err(FileError::Save)?;
         if !self.is_as_read() {
             return Err(FileError::Changed);
         }
         fs::rename(new_name, &self.name).map_err(FileError::Save)
     }
 
-    /// Whether the name is still borne by the file that was read, with the same bytes.
+    /// Whether the file that was read has the same bytes and still bears the name, which is looked at last.
     fn is_as_read(&self) -> bool {
         let mut bytes = [0; STORE_BYTES];
         let length = self.file.metadata().map(|about| about.len());
-        bears(&self.name, &self.file)
-            && length.is_ok_and(|length| length == STORE_BYTES as u64)
+        length.is_ok_and(|length| length == STORE_BYTES as u64)
             && self.file.read_exact_at(&mut bytes, 0).is_ok()
             && bytes == *self.read
+            && bears(&self.name, &self.file)
     }
 }
 
@@ -184,14 +183,14 @@ struct Opened {
 
 /// Opens and locks a file; again where another file has got the name meanwhile.
 fn open_locked(path: &Path, access: Access, wait: Wait) -> Result<Opened, FileError> {
-    let name = fs::canonicalize(path).map_err(FileError::Open)?;
     loop {
+        let name = fs::canonicalize(path).map_err(FileError::Open)?;
         if !fs::metadata(&name).map_err(FileError::Open)?.is_file() {
             return Err(FileError::NotRegular);
         }
         let (file, denied) = open_as(&name, access).map_err(FileError::Open)?;
         lock(&file, access, wait)?;
-        if bears(&name, &file) {
+        if bears(path, &file) && bears(&name, &file) {
             return Ok(Opened { name, file, denied });
         }
     }
@@ -263,15 +262,16 @@ fn letters(random: u64) -> String {
     (0..6).map(|at| char::from(b'a' + (random >> (8 * at) & 0xff) as u8 % 26)).collect()
 }
 
-/// Gives a file the mode and the group of another, and its owner where the system allows it.
-fn set_rights(file: &File, about: &Metadata) -> io::Result<()> {
-    let own = file.metadata()?;
+/// Gives a file the mode, the group and the access list of another, and its owner where the system allows it.
+fn set_rights(file: &File, from: &File) -> io::Result<()> {
+    let (own, about) = (file.metadata()?, from.metadata()?);
     if own.uid() != about.uid() {
         let _ = fchown(file, Some(about.uid()), None);
     }
     if own.gid() != about.gid() {
         fchown(file, None, Some(about.gid()))?;
     }
+    access_list::copy(from, file)?;
     file.set_permissions(about.permissions())
 }
 

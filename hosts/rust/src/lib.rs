@@ -89,6 +89,7 @@
 #[cfg(not(target_pointer_width = "64"))]
 compile_error!("the dossier calls take lengths of 64 bits");
 
+mod access_list;
 mod answer;
 pub mod file;
 mod label;
