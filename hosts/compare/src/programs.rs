@@ -1,7 +1,7 @@
 //! Other programs that carry out scripts: which scripts they are given, how, and how what they print and leave is compared.
 use crate::random::Random;
 use std::io::{self, ErrorKind, Read, Write};
-use std::process::{Child, Command, ExitStatus, Stdio};
+use std::process::{Child, Command, ExitCode, ExitStatus, Stdio};
 
 /// Which random scripts are compared: those of a seed, so many of them or only one.
 pub struct Range {
@@ -30,6 +30,18 @@ impl Range {
     /// The numbers of the scripts.
     pub fn numbers(&self) -> std::ops::Range<u64> {
         self.only.map_or(0..self.scripts, |only| only..only + 1)
+    }
+}
+
+/// How a comparison ends: 0 if nothing differs and all was met, 1 if not, 2 if a program or a file could not be used, which is told.
+pub fn end(compared: io::Result<bool>, who: &str) -> ExitCode {
+    match compared {
+        Ok(true) => ExitCode::SUCCESS,
+        Ok(false) => ExitCode::FAILURE,
+        Err(error) => {
+            eprintln!("{who}: {error}");
+            ExitCode::from(2)
+        }
     }
 }
 

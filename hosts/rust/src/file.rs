@@ -49,7 +49,7 @@ pub enum FileError {
     Lock(io::Error),
     /// The file is no longer the one that was read; nothing was saved.
     Changed,
-    /// The new file could not be made, written or given its name; the old store is there.
+    /// The new file could not be made, written or given its name; the old store, if there was one, is there.
     Save(io::Error),
     /// The new store is there, but its folder could not be synced, so that the name may not survive a loss of power.
     NotSynced(io::Error),
@@ -128,7 +128,7 @@ impl StoreFile {
     }
 
     /// Saves the store by a new file, synced and renamed, if a byte has changed since it was read or saved: whether it has. The
-    /// new file has the old one's mode and group and, where the system allows it, its owner.
+    /// new file has the old one's mode, group and access list and, where the system allows it, its owner.
     pub fn save(&mut self) -> Result<bool, FileError> {
         if self.store.as_bytes() == &self.read[..] {
             return Ok(false);

@@ -63,14 +63,7 @@ fn main() -> ExitCode {
         return ExitCode::from(2);
     };
     println!("seed {}", plan.range.seed);
-    match compare(&plan) {
-        Ok(true) => ExitCode::SUCCESS,
-        Ok(false) => ExitCode::FAILURE,
-        Err(error) => {
-            eprintln!("compare_command: {error}");
-            ExitCode::from(2)
-        }
-    }
+    programs::end(compare(&plan), "compare_command")
 }
 
 /// Reads the command line.

@@ -17,14 +17,7 @@ fn main() -> ExitCode {
         return ExitCode::from(2);
     };
     println!("seed {}", plan.range.seed);
-    match compare(&plan) {
-        Ok(true) => ExitCode::SUCCESS,
-        Ok(false) => ExitCode::FAILURE,
-        Err(error) => {
-            eprintln!("{}: {error}", plan.runner);
-            ExitCode::from(2)
-        }
-    }
+    programs::end(compare(&plan), &plan.runner)
 }
 
 /// Reads the command line.
