@@ -3,18 +3,17 @@
 
     python3 examples/style.py examples/style.xml
 
-A subject of label 0 has the list of a season. A subject of label 16 takes the style in below it, all elements at once, and sees
-it with siblings in path order; for 0 nothing has happened. Sent again, it is refused.
+The package dossier is installed before, by `pip install hosts/python`. A subject of label 0 has the list of a season. A subject
+of label 16 takes the style in below it, all elements at once, and sees it with siblings in path order; for 0 nothing has
+happened. Sent again, it is refused.
 """
 import pathlib
 import sys
 
-sys.dont_write_bytecode = True
-sys.path.insert(0, str(pathlib.Path(__file__).resolve().parent.parent / "hosts" / "python"))
-from dossier import Label, Level, Refused, Step, Store, Text  # noqa: E402
+from dossier import Label, Level, Path, Refused, Store, Text
 
 low, high = Label(Level.OPEN), Label(Level.HOUSE)
-season = [Step(10, low)]
+season = Path.root().child(10, low)
 
 # the form has nothing behind the end tag, so the file's last line end is left out
 sent = pathlib.Path(sys.argv[1]).read_text().removesuffix("\n")

@@ -1,7 +1,10 @@
 /* dossier, the labelled dossier store of the project Yaztobel: its calls for C and C++. docs/GUIDE.md is where to begin.
  *
- * Link with target/staticlib/libdossier_c.a, which `tools/build --archive dossier_c` builds. It needs memmove and memset of the C
- * library and nothing else. It keeps nothing between calls, allocates nothing and starts no thread.
+ * Link with the archive libdossier_c.a. `tools/install PREFIX` installs it, this file and dossier.pc, by which pkg-config finds
+ * both: cc program.c $(pkg-config --cflags --libs dossier). In the project's folder, without an installation, `tools/build
+ * --archive dossier_c` builds target/staticlib/libdossier_c.a. The archive needs memmove and memset of the C library and nothing
+ * else. It keeps nothing between calls, allocates nothing and starts no thread. The helpers at the end of this file, which put
+ * steps and measures into bytes and read them back, are compiled with the program that uses them.
  *
  * THE STORE is 41,088 bytes that the caller owns and lends for one call at a time: 32 partitions of 1,284 bytes, one for each
  * label. An empty store is all zero; no call is needed to make one, and a store may be kept or moved by copying its bytes. Of
@@ -41,6 +44,8 @@
  *     lock of its own.
  *   - The functions are declared as below, with nothing narrower.
  *
+ * A compiler that defines __GNUC__, as gcc and clang do, warns where NULL is passed and where an answer is dropped.
+ *
  * An XML intake takes less than 6 KB of stack on x86-64, a view less than 7 KB, a view as XML less than 8 KB and the other calls,
  * a grade and the migration too, less than 1 KB, as measured on a full store. No call blocks.
  */
@@ -54,7 +59,28 @@
 #error "the dossier calls take lengths of 64 bits"
 #endif
 
+/* The version, as numbers and as a text. docs/DECISIONS.md says what changes it. */
+#define DOSSIER_VERSION_MAJOR 1
+#define DOSSIER_VERSION_MINOR 0
+#define DOSSIER_VERSION_PATCH 0
+#define DOSSIER_VERSION "1.0.0"
+
+/* What stands before a function where the compiler has it: none of its pointers is NULL; its answer must be looked at. */
+#ifdef __GNUC__
+#define DOSSIER_NONNULL __attribute__((nonnull))
+#define DOSSIER_WARN_UNUSED __attribute__((warn_unused_result))
+#else
+#define DOSSIER_NONNULL
+#define DOSSIER_WARN_UNUSED
+#endif
+
 #ifdef __cplusplus
+#ifdef __GNUC__
+/* The name dossier_grade is a struct's and a function's, and the helpers have casts of C: no warning about these. */
+#pragma GCC diagnostic push
+#pragma GCC diagnostic ignored "-Wshadow"
+#pragma GCC diagnostic ignored "-Wold-style-cast"
+#endif
 extern "C" {
 #endif
 
@@ -63,6 +89,12 @@ extern "C" {
 
 /* How many bytes a partition has; the one of label n starts at n times this. */
 #define DOSSIER_PARTITION_BYTES 1284
+
+/* How many bytes a step of a path has, and a path of six steps; a measure; the longest text. */
+#define DOSSIER_STEP_BYTES 3
+#define DOSSIER_PATH_BYTES_MAX 18
+#define DOSSIER_MEASURE_BYTES 4
+#define DOSSIER_TEXT_BYTES_MAX 16
 
 /* No listing has more bytes: at most 1,024 lines of live elements, 5,120 of removed ones and the first. An output of this
  * length is never refused by 10. The longest listing known has 114,861 bytes. */
@@ -167,6 +199,7 @@ struct dossier_migration {
  * Fields are parted by one tab, and each line ends with byte 10; no byte 0 is written. The first line: VIEW, the subject, how
  * many lines follow. Each further line: the depth (steps of the whole path), the last step's name and label, P (live) or R
  * (removed), the kind (G, M, T, or - if removed), and the value: a measure in decimal, a text as it is, else -. */
+DOSSIER_NONNULL DOSSIER_WARN_UNUSED
 struct dossier_answer dossier_view(const uint8_t *store, size_t store_length, uint32_t subject, const uint8_t *path,
                                    size_t path_length, uint8_t *output, size_t output_length);
 
@@ -179,6 +212,7 @@ struct dossier_answer dossier_view(const uint8_t *store, size_t store_length, ui
  * decimal, or a text with &amp; for &, &lt; for < and &gt; for >; a group and a removed element have none. One space stands
  * before each attribute, and no other white space is added. The path's own element stands directly in the dossier tag: what is
  * above it is not written. */
+DOSSIER_NONNULL DOSSIER_WARN_UNUSED
 struct dossier_answer dossier_view_xml(const uint8_t *store, size_t store_length, uint32_t subject, const uint8_t *path,
                                        size_t path_length, uint8_t *output, size_t output_length);
 
@@ -189,16 +223,19 @@ struct dossier_answer dossier_view_xml(const uint8_t *store, size_t store_length
  * is in view; the root always is. Each longer prefix of the path, but for the path itself, is a missing group: it is made with kind
  * 0 and no value. Every step behind the longest prefix in view must bear the subject's label, else the number is 7. The groups and
  * the element are made all or none: where they have no room together, the number is 9. No other call makes missing groups. */
+DOSSIER_NONNULL DOSSIER_WARN_UNUSED
 struct dossier_answer dossier_insert(uint8_t *store, size_t store_length, uint32_t subject, const uint8_t *path,
                                      size_t path_length, uint32_t kind, const uint8_t *value, size_t value_length);
 
 /* Replaces the value of a live element, its kind too, and keeps all else: the elements below it stay, whatever their label.
  * Count: 1, the element replaced. Only the subject's partition is written. */
+DOSSIER_NONNULL DOSSIER_WARN_UNUSED
 struct dossier_answer dossier_update(uint8_t *store, size_t store_length, uint32_t subject, const uint8_t *path,
                                      size_t path_length, uint32_t kind, const uint8_t *value, size_t value_length);
 
 /* Deletes a live element and every live element below it of the same label; elements of other labels below it stay.
  * Count: how many elements were taken. Only the subject's partition is written. */
+DOSSIER_NONNULL DOSSIER_WARN_UNUSED
 struct dossier_answer dossier_delete(uint8_t *store, size_t store_length, uint32_t subject, const uint8_t *path,
                                      size_t path_length);
 
@@ -208,6 +245,7 @@ struct dossier_answer dossier_delete(uint8_t *store, size_t store_length, uint32
  *
  * Each cause is tested for both paths before the next one: where the base is a group and the top is not in view, the number is 7.
  * A measure that the subject may not see is refused as one that is not there. Pass n as it is: 257 is refused by 11. */
+DOSSIER_NONNULL DOSSIER_WARN_UNUSED
 struct dossier_grade dossier_grade(const uint8_t *store, size_t store_length, uint32_t subject, const uint8_t *base,
                                    size_t base_length, const uint8_t *top, size_t top_length, uint32_t n);
 
@@ -230,6 +268,7 @@ struct dossier_grade dossier_grade(const uint8_t *store, size_t store_length, ui
  * The time is linear in the length of the text where no element has more than 32 directly inside it. Where one has more, which
  * ends in a refusal anyway, what is inside it is gone through once more for each 512 of these: 1 MB of 22,000 siblings takes
  * less than two seconds. */
+DOSSIER_NONNULL DOSSIER_WARN_UNUSED
 struct dossier_answer dossier_insert_xml(uint8_t *store, size_t store_length, uint32_t subject, const uint8_t *parent,
                                          size_t parent_length, const uint8_t *text, size_t text_length);
 
@@ -246,10 +285,106 @@ struct dossier_answer dossier_insert_xml(uint8_t *store, size_t store_length, ui
  * migration changes no byte; its mask has the bits of the first and those of the partitions that the first changed. A partition
  * without such versions has the same bytes in both orders. Only where nothing was written in the order of now does the mask name
  * just the broken partitions; a subject that dominates one of them is refused by 3 as before. */
+DOSSIER_NONNULL DOSSIER_WARN_UNUSED
 struct dossier_migration dossier_migrate(uint8_t *store, size_t store_length);
+
+/* The words of an answer's number, the cause of a refusal: what stands behind "refused by 7: ". The text is never NULL and
+ * lasts as long as the program. */
+DOSSIER_WARN_UNUSED
+static inline const char *dossier_refusal_text(uint32_t number)
+{
+    switch (number) {
+    case DOSSIER_DONE:
+        return "the call is done";
+    case DOSSIER_REFUSED_STORE_LENGTH:
+        return "the store is not 41,088 bytes long";
+    case DOSSIER_REFUSED_SUBJECT:
+        return "the subject is no label";
+    case DOSSIER_REFUSED_NOT_WELL_FORMED:
+        return "a partition that the subject dominates is not well formed";
+    case DOSSIER_REFUSED_PATH:
+        return "the path is not valid";
+    case DOSSIER_REFUSED_VALUE:
+        return "the value is not allowed";
+    case DOSSIER_REFUSED_OTHER_LABEL:
+        return "the path does not end in the subject's label";
+    case DOSSIER_REFUSED_ABSENT:
+        return "the path or its parent is not in view, or the element is not live";
+    case DOSSIER_REFUSED_LIVE:
+        return "the element is live already";
+    case DOSSIER_REFUSED_FULL:
+        return "the label's partition has no room";
+    case DOSSIER_REFUSED_OUTPUT_SHORT:
+        return "the output is too short for the view";
+    case DOSSIER_REFUSED_SIZES:
+        return "the number of sizes of a grade is not 1 to 64";
+    case DOSSIER_REFUSED_NO_MEASURE:
+        return "a path of the grade is in view and is no live measure's";
+    case DOSSIER_REFUSED_FORM:
+        return "the XML is not in form";
+    case DOSSIER_REFUSED_NOT_OWN:
+        return "an element of the XML bears another label than the subject's, or is marked REMOVED";
+    default:
+        return "no number of this version";
+    }
+}
+
+/* Puts a step of a path, three bytes, and returns 3: length += dossier_put_step(path + length, 10, 0) puts one more. Pass the
+ * numbers as they are: a name over 65535 is put as 0 and a label over 255 as 255, which no valid path has, so that a call refuses
+ * it by 4. */
+DOSSIER_NONNULL DOSSIER_WARN_UNUSED
+static inline size_t dossier_put_step(uint8_t *bytes, uint32_t name, uint32_t label)
+{
+    uint32_t fitting = name <= 65535 ? name : 0;
+    bytes[0] = (uint8_t)fitting;
+    bytes[1] = (uint8_t)(fitting >> 8);
+    bytes[2] = (uint8_t)(label <= 255 ? label : 255);
+    return DOSSIER_STEP_BYTES;
+}
+
+/* The name of a step, of its three bytes. */
+DOSSIER_NONNULL DOSSIER_WARN_UNUSED
+static inline uint32_t dossier_read_name(const uint8_t *step)
+{
+    return step[0] + step[1] * 256u;
+}
+
+/* The label of a step, of its three bytes. */
+DOSSIER_NONNULL DOSSIER_WARN_UNUSED
+static inline uint32_t dossier_read_label(const uint8_t *step)
+{
+    return step[2];
+}
+
+/* Puts a measure, four bytes, and returns 4. A number that does not fit 32 bits with a sign puts nothing and returns 0, the
+ * length that no measure has, so that a call refuses it by 5. */
+DOSSIER_NONNULL DOSSIER_WARN_UNUSED
+static inline size_t dossier_put_measure(uint8_t *bytes, int64_t hundredths)
+{
+    uint32_t bits = (uint32_t)hundredths;
+    if (hundredths < INT32_MIN || hundredths > INT32_MAX) {
+        return 0;
+    }
+    bytes[0] = (uint8_t)bits;
+    bytes[1] = (uint8_t)(bits >> 8);
+    bytes[2] = (uint8_t)(bits >> 16);
+    bytes[3] = (uint8_t)(bits >> 24);
+    return DOSSIER_MEASURE_BYTES;
+}
+
+/* The measure of four bytes, in hundredths of a millimetre. */
+DOSSIER_NONNULL DOSSIER_WARN_UNUSED
+static inline int32_t dossier_read_measure(const uint8_t *bytes)
+{
+    int32_t highest = bytes[3] < 128 ? bytes[3] : bytes[3] - 256;
+    return highest * 16777216 + bytes[2] * 65536 + bytes[1] * 256 + bytes[0];
+}
 
 #ifdef __cplusplus
 }
+#ifdef __GNUC__
+#pragma GCC diagnostic pop
+#endif
 #endif
 
 #endif

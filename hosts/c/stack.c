@@ -3,10 +3,10 @@
  * an insert that makes groups are measured with the partition of label 31 empty, the migration with one there in the order of
  * before. The last line is 'N passed, N failed'. */
 #define _XOPEN_SOURCE 700
+#include "check.h"
 #include "dossier.h"
 
 #include <pthread.h>
-#include <stdio.h>
 #include <stdlib.h>
 #include <string.h>
 
@@ -15,7 +15,10 @@
 enum { STACK = 65536, FILL = 0xa5, VIEW_MOST = 7 * 1024, XML_MOST = 8 * 1024, INTAKE_MOST = 6 * 1024, OTHER_MOST = 1024 };
 
 /* The bytes of the longest listing and of the longest XML known, the elements of each label, and the first name. */
-enum { LONGEST = 114861, LONGEST_XML = 414816, EACH = 32, LABELS = 32, STEP = 3, ABOVE = 5, FIRST_NAME = 10000 };
+enum { LONGEST = 114861, LONGEST_XML = 414816, EACH = 32, LABELS = 32, ABOVE = 5, FIRST_NAME = 10000 };
+
+/* How many bytes a step has. */
+enum { STEP = DOSSIER_STEP_BYTES };
 
 /* How many elements stand beside each other in a text that is refused: more than the keys that are kept of one group. */
 enum { GROUPED = 600 };
@@ -32,20 +35,6 @@ static struct dossier_answer answer;
 /* A text to be taken in, and its length. */
 static char sent[524288];
 static size_t sent_length;
-
-/* How many checks held and how many did not. */
-static int passed, failed;
-
-/* Counts one check, and names it if it does not hold. */
-static void check(const char *name, int holds)
-{
-    if (holds) {
-        passed++;
-    } else {
-        failed++;
-        printf("failed: %s\n", name);
-    }
-}
 
 /* Whether one label dominates another. */
 static int dominates(int one, int other)
@@ -64,12 +53,10 @@ static int below(int label)
     return -1;
 }
 
-/* Puts a step into the path. */
-static void put_step(size_t at, int name, int label)
+/* Puts a step into the path, behind as many others; where it ends. */
+static size_t put_step(size_t at, int name, int label)
 {
-    path[STEP * at] = (uint8_t)(name % 256);
-    path[STEP * at + 1] = (uint8_t)(name / 256);
-    path[STEP * at + 2] = (uint8_t)label;
+    return STEP * at + dossier_put_step(path + STEP * at, (uint32_t)name, (uint32_t)label);
 }
 
 /* Inserts an element of the label with removed ones above it, where it dominates another label. */
@@ -80,12 +67,12 @@ static int insert_below(int label, int name)
     size_t above = other < 0 ? 0 : ABOVE;
     int done = 1;
     for (size_t at = 0; at < above; at++) {
-        put_step(at, name, other);
-        answer = dossier_insert(store, sizeof store, (uint32_t)other, path, STEP * (at + 1), DOSSIER_KIND_GROUP, text, 0);
+        size_t end = put_step(at, name, other);
+        answer = dossier_insert(store, sizeof store, (uint32_t)other, path, end, DOSSIER_KIND_GROUP, text, 0);
         done = done && answer.number == DOSSIER_DONE;
     }
-    put_step(above, name, label);
-    answer = dossier_insert(store, sizeof store, (uint32_t)label, path, STEP * (above + 1), DOSSIER_KIND_TEXT, text, sizeof text);
+    size_t end = put_step(above, name, label);
+    answer = dossier_insert(store, sizeof store, (uint32_t)label, path, end, DOSSIER_KIND_TEXT, text, sizeof text);
     done = done && answer.number == DOSSIER_DONE;
     if (above > 0) {
         answer = dossier_delete(store, sizeof store, (uint32_t)other, path, STEP);
@@ -311,6 +298,5 @@ int main(void)
     fill_before();
     measure("migration", call_migrate, DOSSIER_DONE, base, OTHER_MOST);
     check("the partition is migrated", answer.count == 0 && fifth_label(0) == 24 && fifth_label(7) == 31 && fifth_label(31) == 7);
-    printf("%d passed, %d failed\n", passed, failed);
-    return failed == 0 ? 0 : 1;
+    return ended();
 }

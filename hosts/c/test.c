@@ -1,9 +1,9 @@
 /* Tests the C declarations: answers, listings, XML, what refusals leave untouched, what an update keeps, missing groups, grades,
  * styles taken in as XML, the order of versions, and the migration of stores written before, a store file of tests among them.
  * The last line is 'N passed, N failed'. */
+#include "check.h"
 #include "dossier.h"
 
-#include <stdio.h>
 #include <string.h>
 
 /* A path or a value lent to a call, with its length. */
@@ -16,9 +16,6 @@ enum { FILL = 0xa5 };
 static uint8_t store[DOSSIER_STORE_BYTES + 1];
 static uint8_t kept[DOSSIER_STORE_BYTES + 1];
 static uint8_t output[2048];
-
-/* How many checks held and how many did not. */
-static int passed, failed;
 
 /* Paths: the root, 10:0, below it 20:16, 7:0 and 30:0, 5:16 below 20:16, 40:0 and 35:16 below 30:0, 10:16, 11:16 and 9:0. */
 static const uint8_t none[1];
@@ -38,17 +35,6 @@ static const uint8_t measure[] = {0x6a, 0xff, 0xff, 0xff};
 
 /* The last listing of document 01's example. */
 static const char listing[] = "VIEW\t16\t2\n1\t10\t0\tR\t-\t-\n2\t20\t16\tP\tM\t-150\n";
-
-/* Counts one check, and names it if it does not hold. */
-static void check(const char *name, int holds)
-{
-    if (holds) {
-        passed++;
-    } else {
-        failed++;
-        printf("failed: %s\n", name);
-    }
-}
 
 /* Whether an output holds FILL from a byte on. */
 static int is_untouched_from(size_t start)
@@ -483,9 +469,9 @@ static const uint8_t g99[] = {99, 0, 0};
 /* Inserts a measure. */
 static void insert_measure(const char *name, uint32_t subject, const uint8_t *path, size_t length, int32_t number)
 {
-    uint32_t bits = (uint32_t)number;
-    uint8_t bytes[] = {(uint8_t)bits, (uint8_t)(bits >> 8), (uint8_t)(bits >> 16), (uint8_t)(bits >> 24)};
-    done(name, insert(subject, path, length, DOSSIER_KIND_MEASURE, LENT(bytes)), 0);
+    uint8_t bytes[DOSSIER_MEASURE_BYTES];
+    size_t put = dossier_put_measure(bytes, number);
+    done(name, insert(subject, path, length, DOSSIER_KIND_MEASURE, bytes, put), 0);
 }
 
 /* The store of the worked examples of grades: 6:0 is a group, 8:0 is removed, 10:0 is a text. */
@@ -785,6 +771,5 @@ int main(void)
     test_order();
     test_migration();
     test_store_file();
-    printf("%d passed, %d failed\n", passed, failed);
-    return failed == 0 ? 0 : 1;
+    return ended();
 }

@@ -1,5 +1,5 @@
 //! Tells the linker where the archive of the calls is: target/staticlib at the project's root, or the folder that the
-//! environment variable DOSSIER_C_DIR names.
+//! environment variable `DOSSIER_C_DIR` names.
 
 use std::env;
 use std::path::{Path, PathBuf};

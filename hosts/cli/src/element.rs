@@ -2,7 +2,7 @@
 
 use std::collections::HashMap;
 
-use dossier::{Error, LISTING_BYTES_MAX, Label, Level, Line, Mark, Path, Store, Value};
+use dossier::{Error, Label, Level, Line, Mark, Path, Store, Value};
 
 use crate::shown::millimetres;
 
@@ -61,32 +61,14 @@ impl Content {
     }
 }
 
-/// The listing of a path by a subject, as the call writes it.
-pub fn listing(store: &Store, subject: Label, path: &Path) -> Result<Vec<u8>, Error> {
-    let mut output = vec![0; LISTING_BYTES_MAX];
-    let length = store.view(subject, path, &mut output)?.listing().len();
-    output.truncate(length);
-    Ok(output)
-}
-
 /// The elements that a subject sees at and below a path, in path order.
 pub fn elements(store: &Store, subject: Label, path: &Path) -> Result<Vec<Element>, Error> {
-    let mut output = vec![0; LISTING_BYTES_MAX];
-    let view = store.view(subject, path, &mut output)?;
-    let mut above = path.clone();
-    view.lines()
-        .map(|line| {
-            let element = element(&above, line?);
-            above = element.path.clone();
-            Ok(element)
-        })
-        .collect()
+    store.view(subject, path)?.lines().map(|line| Ok(element(line?))).collect()
 }
 
-/// The element of a line. The steps above it are those of the element listed before it, or of the path that was viewed.
-fn element(before: &Path, line: Line) -> Element {
-    let Line { depth, name, label, mark } = line;
-    let path = before.prefix(usize::from(depth).saturating_sub(1)).child(name, label);
+/// The element of a line.
+fn element(line: Line) -> Element {
+    let Line { path, name, label, mark, .. } = line;
     let content = match mark {
         Mark::Removed => Content::Removed,
         Mark::Live(Value::Group) => Content::Group,

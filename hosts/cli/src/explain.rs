@@ -19,7 +19,7 @@ const UNREAD: &str = "A ? 0: The line does not read as a call. Usual causes are 
 /// Explains a number, all numbers, or a script.
 pub fn explain(words: &Words) -> Result<Done, Failure> {
     let Some(word) = words.word(0) else {
-        let all: Vec<String> = Refusal::ALL.into_iter().map(of_refusal).collect();
+        let all: Vec<String> = Refusal::ALL.iter().copied().map(of_refusal).collect();
         return files::print(format!("{UNREAD}\n{}", all.join("\n")).as_bytes());
     };
     let is_number = |text: &&str| !text.is_empty() && text.bytes().all(|byte| byte.is_ascii_digit());

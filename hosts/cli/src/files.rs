@@ -12,7 +12,7 @@ use crate::arguments::Words;
 use crate::failure::{Done, Failure, eprint_all};
 
 /// Reads the store of the command's file, to be shown.
-pub fn read_store(words: &Words) -> Result<Store<'static>, Failure> {
+pub fn read_store(words: &Words) -> Result<Store, Failure> {
     waiting(words, file::read)
 }
 

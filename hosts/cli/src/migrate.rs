@@ -5,19 +5,19 @@ use dossier::Label;
 use crate::arguments::Words;
 use crate::failure::{Done, Failure};
 use crate::files;
-use crate::owner::{State, labels, list, partition, state};
+use crate::owner::{State, list, partition, state};
 use crate::refusals;
 
 /// Migrates the store, saves it, and says what was done and what the mask means.
 pub fn migrate(words: &Words) -> Result<Done, Failure> {
     let mut opened = files::open_store(words)?;
-    let before: Vec<Vec<u8>> = labels().map(|label| partition(opened.store(), label).to_vec()).collect();
-    let mask = opened.store_mut().migrate().map_err(|error| Failure::call(error, refusals::of_any))?;
+    let before: Vec<Vec<u8>> = Label::all().map(|label| partition(&opened, label).to_vec()).collect();
+    let mask = opened.migrate().map_err(|error| Failure::call(error, refusals::of_any))?;
     let moved: Vec<Label> =
-        labels().filter(|label| partition(opened.store(), *label) != before[label.number() as usize]).collect();
+        Label::all().filter(|label| partition(&opened, *label) != before[label.number() as usize]).collect();
     let (mut served, mut broken) = (Vec::new(), Vec::new());
-    for label in mask.labels() {
-        let kept = state(opened.store(), label).map_err(|error| Failure::call(error, refusals::of_any))?;
+    for label in mask {
+        let kept = state(&opened, label).map_err(|error| Failure::call(error, refusals::of_any))?;
         if matches!(kept, State::WellFormed(_)) { served.push(label) } else { broken.push(label) }
     }
     files::save(words, &mut opened)?;

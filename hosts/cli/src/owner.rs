@@ -1,6 +1,6 @@
 //! What only a file's owner may know: the state of each partition; and `dossier check`, which tells it.
 
-use dossier::{Error, Label, PARTITION_BYTES, Path, Refusal, STORE_BYTES, Store};
+use dossier::{Error, Label, PARTITION_BYTES, Path, Refusal, Store};
 
 use crate::arguments::Words;
 use crate::element::{Content, elements};
@@ -24,23 +24,18 @@ pub enum State {
     Broken,
 }
 
-/// All labels.
-pub fn labels() -> impl Iterator<Item = Label> {
-    (0..32).filter_map(Label::from_number)
-}
-
 /// The bytes of a label's partition.
-pub fn partition<'a>(store: &'a Store, label: Label) -> &'a [u8] {
+pub fn partition(store: &Store, label: Label) -> &[u8] {
     let start = label.number() as usize * PARTITION_BYTES;
     &store.as_bytes()[start..start + PARTITION_BYTES]
 }
 
 /// A store whose other partitions are empty.
-fn alone(store: &Store, label: Label) -> Store<'static> {
+fn alone(store: &Store, label: Label) -> Store {
     let start = label.number() as usize * PARTITION_BYTES;
-    let mut bytes = Box::new([0; STORE_BYTES]);
-    bytes[start..start + PARTITION_BYTES].copy_from_slice(partition(store, label));
-    Store::from(bytes)
+    let mut alone = Store::empty();
+    alone.as_mut_bytes()[start..start + PARTITION_BYTES].copy_from_slice(partition(store, label));
+    alone
 }
 
 /// The state of a label's partition. It is told by the calls themselves, on a store in which it is alone: a view by its label is
@@ -59,7 +54,7 @@ pub fn state(store: &Store, label: Label) -> Result<State, Error> {
 /// Tells the state of each partition.
 pub fn check(words: &Words) -> Result<Done, Failure> {
     let store = files::read_store(words)?;
-    let states = labels()
+    let states = Label::all()
         .map(|label| Ok((label, state(&store, label)?)))
         .collect::<Result<Vec<_>, Error>>()
         .map_err(|error| Failure::call(error, refusals::of_any))?;
@@ -86,7 +81,8 @@ fn row(label: Label, state: State) -> Vec<String> {
 
 /// What is said below the table.
 fn summary(elements: usize, faulty: &[Label]) -> String {
-    let refused: Vec<Label> = labels().filter(|subject| faulty.iter().any(|label| subject.dominates(*label))).collect();
+    let refused: Vec<Label> =
+        Label::all().filter(|subject| faulty.iter().any(|label| subject.dominates(*label))).collect();
     let counted = counted(elements, "element");
     if faulty.is_empty() {
         return format!("{counted}; every partition is well formed\n");

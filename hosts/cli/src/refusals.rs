@@ -6,80 +6,67 @@ use dossier::{Label, Path, Refusal};
 use crate::script::{Call, OUTPUT_BYTES, Step, Verb};
 use crate::shown::named;
 
-/// What each refusal means, and what to do about it.
-const MEANINGS: [(Refusal, &str, &str); Refusal::ALL.len()] = [
-    (
-        Refusal::StoreLength,
-        "The store is not 41,088 bytes long.",
-        "Lend a store's bytes, all of them. dossier new makes a file with an empty one.",
-    ),
-    (Refusal::Subject, "The subject is no label.", "A label is a number from 0 to 31: level x 8 + compartments."),
+/// What to do about each refusal.
+const ADVICE: [(Refusal, &str); Refusal::ALL.len()] = [
+    (Refusal::StoreLength, "Lend a store's bytes, all of them. dossier new makes a file with an empty one."),
+    (Refusal::Subject, "A label is a number from 0 to 31: level x 8 + compartments."),
     (
         Refusal::NotWellFormed,
-        "A partition that the subject dominates is not well formed.",
         "The store's owner looks with dossier check. One that was written before the path order changed is brought into the \
          order of now by dossier migrate; a broken one has to come from a copy that was kept.",
     ),
     (
         Refusal::Path,
-        "The path is not valid.",
         "It has one to six steps with names from 1 to 65535 and labels from 0 to 31, each label dominating the one before. The \
          root alone, /, may be viewed and be the parent of a style; nothing else may be done with it.",
     ),
     (
         Refusal::Value,
-        "The value is not allowed.",
         "A group has none; a measure is a whole number of 32 bits with a sign; a text has 1 to 16 characters of ASCII, bytes 32 \
          to 126.",
     ),
     (
         Refusal::OtherLabel,
-        "The path does not end in the subject's label.",
         "A subject writes elements of its own label alone: end the path in that label, or make the call under the path's.",
     ),
     (
         Refusal::Absent,
-        "What the call needs is not there for this subject.",
         "A view, a grade and the parent of a style need a path in view. An insert needs its parent in view, or missing steps that \
          all bear the subject's label. An update and a delete need a live element. Whether something is hidden or missing is not \
          told.",
     ),
-    (Refusal::Live, "The element is live already.", "Change its value by an update, or delete it first."),
+    (Refusal::Live, "Change its value by an update, or delete it first."),
     (
         Refusal::Full,
-        "The label's partition has no room.",
         "It holds at most 32 elements, missing groups counted: delete some of this label, or divide them among labels.",
     ),
     (
         Refusal::OutputShort,
-        "The output is too short for the view.",
         "In a script it has 16,384 bytes: view a path further down, or use dossier view, which has room for every view. A host \
          lends a longer output.",
     ),
-    (Refusal::Sizes, "The number of sizes of a grade is not 1 to 64.", "Give another number of sizes."),
-    (
-        Refusal::NoMeasure,
-        "A path of the grade is in view and is no live measure's.",
-        "Give two live measures: no group, text, removed element or root.",
-    ),
+    (Refusal::Sizes, "Give another number of sizes."),
+    (Refusal::NoMeasure, "Give two live measures: no group, text, removed element or root."),
     (
         Refusal::Form,
-        "The XML is not in form.",
         "It has to be one element, byte for byte as dossier view --format xml PATH writes it inside the dossier tag, siblings in any \
          order: no white space between tags, no declaration, values that are allowed, six steps at most with the parent's, no two \
          siblings equal in name and label.",
     ),
-    (
-        Refusal::NotOwn,
-        "An element of the XML bears another label than the subject's, or is marked REMOVED.",
-        "Send the style under its own label, and only what is PRESENT.",
-    ),
+    (Refusal::NotOwn, "Send the style under its own label, and only what is PRESENT."),
 ];
 
-/// What a refusal means, and what to do about it.
-pub fn meaning(refusal: Refusal) -> (&'static str, &'static str) {
-    let row = MEANINGS.iter().find(|(this, _, _)| *this == refusal);
-    row.map_or(("", ""), |(_, cause, advice)| (cause, advice))
+/// What a refusal means, in a sentence, and what to do about it.
+pub fn meaning(refusal: Refusal) -> (String, &'static str) {
+    let row = ADVICE.iter().find(|(this, _)| *this == refusal);
+    (sentence(refusal.cause()), row.map_or("", |(_, advice)| advice))
+}
+
+/// Words with a capital letter and a full stop.
+fn sentence(words: &str) -> String {
+    let mut letters = words.chars();
+    let first = letters.next().map(|letter| letter.to_uppercase().to_string());
+    first.unwrap_or_default() + letters.as_str() + "."
 }
 
 /// A refusal, with all that can be said of any call.
@@ -90,7 +77,7 @@ pub fn of_any(refusal: Refusal) -> String {
 
 /// Why a view of a path was refused.
 pub fn of_view(refusal: Refusal, subject: Label, path: &Path) -> String {
-    let step = |(name, label): (u16, Label)| Step { name, label: label.number() as u8 };
+    let step = |(name, label): (u16, Label)| Step { name, label: label.into() };
     let call = Call { subject: subject.number(), steps: path.steps().map(step).collect(), verb: Verb::View };
     of_call(refusal.number(), &call)
 }
@@ -141,7 +128,7 @@ fn cause(refusal: Refusal, call: &Call) -> String {
                 "the view of {path} is longer than {OUTPUT_BYTES} bytes; view a path further down, or use dossier view"
             )
         }
-        other => meaning(other).0.to_string(),
+        other => other.cause().to_string(),
     }
 }
 
@@ -186,7 +173,7 @@ fn value_cause(call: &Call) -> String {
         Verb::Insert(value) | Verb::Update(value) => {
             format!("the text has {} characters; 1 to 16 are allowed", value.bytes.len())
         }
-        _ => meaning(Refusal::Value).0.to_string(),
+        _ => Refusal::Value.cause().to_string(),
     }
 }
 
@@ -207,9 +194,8 @@ mod tests {
     use super::*;
 
     #[test]
-    fn each_refusal_has_a_meaning() {
-        assert!(
-            Refusal::ALL.into_iter().all(|refusal| !meaning(refusal).0.is_empty() && !meaning(refusal).1.is_empty())
-        );
+    fn there_is_advice_for_each_refusal() {
+        assert!(Refusal::ALL.iter().all(|refusal| !meaning(*refusal).1.is_empty()));
+        assert_eq!(meaning(Refusal::Live).0, "The element is live already.");
     }
 }

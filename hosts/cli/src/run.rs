@@ -1,7 +1,7 @@
 //! `dossier run`: a script carried out on a store in a file.
 
 use std::ffi::OsStr;
-use std::fs::File;
+use std::fs::{File, Metadata};
 use std::io::{self, ErrorKind, IsTerminal, Read, Write};
 
 use dossier::Store;
@@ -24,7 +24,7 @@ pub fn run(words: &Words) -> Result<Done, Failure> {
     let mut opened = files::open_store(words)?;
     source.greet();
     let progress = Progress::new(source.length(), source.is_typed());
-    let mut runner = Runner::new(opened.store_mut(), words.has("--explain"), progress);
+    let mut runner = Runner::new(&mut opened, words.has("--explain"), progress);
     let read = runner.carry_out_all(&mut source);
     let (faults, written) = (runner.faults, runner.output.finish());
     files::save(words, &mut opened)?;
@@ -63,7 +63,7 @@ impl<'a> Source<'a> {
     /// How many bytes it has, where that is known.
     fn length(&self) -> Option<u64> {
         match self {
-            Source::Named(_, file) => file.metadata().ok().filter(|about| about.is_file()).map(|about| about.len()),
+            Source::Named(_, file) => file.metadata().ok().filter(Metadata::is_file).map(|about| about.len()),
             Source::Standard => None,
         }
     }
@@ -118,7 +118,7 @@ impl Output {
 
 /// A script that is being carried out.
 struct Runner<'a> {
-    store: &'a mut Store<'static>,
+    store: &'a mut Store,
     space: Box<[u8; OUTPUT_BYTES]>,
     output: Output,
     progress: Progress,
@@ -129,7 +129,7 @@ struct Runner<'a> {
 
 impl<'a> Runner<'a> {
     /// One that has carried out nothing yet.
-    fn new(store: &'a mut Store<'static>, is_explained: bool, progress: Progress) -> Runner<'a> {
+    fn new(store: &'a mut Store, is_explained: bool, progress: Progress) -> Runner<'a> {
         let (space, output) = (Box::new([0; OUTPUT_BYTES]), Output::default());
         Runner { store, space, output, progress, is_explained, lines: 0, faults: 0 }
     }

@@ -7,7 +7,7 @@ use crate::shown::{counted, named};
 
 /// Lines with their columns below each other; the first has the heads.
 pub fn columns(heads: &[&str], rows: &[Vec<String>]) -> String {
-    let heads: Vec<String> = heads.iter().map(|head| head.to_string()).collect();
+    let heads: Vec<String> = heads.iter().map(ToString::to_string).collect();
     let mut widths: Vec<usize> = heads.iter().map(String::len).collect();
     for row in rows {
         for (width, cell) in widths.iter_mut().zip(row) {

@@ -13,7 +13,7 @@ pub fn take(words: &Words) -> Result<Done, Failure> {
     let (subject, parent) = (words.label("--as")?, words.path(1)?);
     let sent = files::read_all(words.word(2).unwrap_or_default())?;
     let mut opened = files::open_store(words)?;
-    let bytes = opened.store_mut().as_mut_bytes();
+    let bytes = opened.as_mut_bytes();
     let answer = raw::insert_xml(bytes, subject.number(), parent.as_bytes(), style_of(&sent));
     let count = answer
         .outcome()

@@ -2,7 +2,7 @@
 
 use std::io::{self, IsTerminal};
 
-use dossier::{Error, Label, Path, Store, XML_BYTES_MAX};
+use dossier::{Error, Label, Path, Store, View};
 
 use crate::arguments::Words;
 use crate::csv;
@@ -48,11 +48,8 @@ fn format_of(words: &Words) -> Result<Format, Failure> {
 /// What a label sees, in a format.
 fn text(store: &Store, subject: Label, path: &Path, format: Format) -> Result<Vec<u8>, Error> {
     match format {
-        Format::Lines => element::listing(store, subject, path),
-        Format::Xml => {
-            let mut output = vec![0; XML_BYTES_MAX];
-            store.view_xml(subject, path, &mut output).map(|xml| xml.as_bytes().to_vec())
-        }
+        Format::Lines => store.view(subject, path).map(View::into_listing),
+        Format::Xml => store.view_xml(subject, path).map(String::into_bytes),
         Format::Table | Format::Csv | Format::Html => {
             let elements = element::elements(store, subject, path)?;
             Ok(match format {

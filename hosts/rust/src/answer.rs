@@ -1,6 +1,7 @@
 //! What a call answers, and the refusals.
 
 use std::fmt;
+use std::iter::FusedIterator;
 
 use crate::label::Label;
 
@@ -18,6 +19,10 @@ pub struct Answer {
 
 impl Answer {
     /// The count of a call that is done, or why it is not.
+    ///
+    /// # Errors
+    ///
+    /// The refusal, or an answer that no call of this version gives.
     pub fn outcome(self) -> Result<u64, Error> {
         match self {
             Answer { number: 0, count } => Ok(count),
@@ -42,6 +47,10 @@ pub struct GradeAnswer {
 
 impl GradeAnswer {
     /// The grade of a call that is done, or why it is not.
+    ///
+    /// # Errors
+    ///
+    /// The refusal, or an answer that no grade of this version gives.
     pub fn outcome(self) -> Result<Grade, Error> {
         match self {
             GradeAnswer { number: 0, step, remainder } => Ok(Grade { step, remainder }),
@@ -75,6 +84,10 @@ pub struct MigrationAnswer {
 
 impl MigrationAnswer {
     /// The mask of a migration that is done, or why it is not.
+    ///
+    /// # Errors
+    ///
+    /// The refusal by 1, or an answer that no migration of this version gives.
     pub fn outcome(self) -> Result<Mask, Error> {
         match self {
             MigrationAnswer { number: 0, mask } => Ok(Mask(mask)),
@@ -91,24 +104,66 @@ pub struct Mask(u32);
 
 impl Mask {
     /// The mask as a number: bit n is that of the partition of label n.
+    #[must_use]
     pub const fn bits(self) -> u32 {
         self.0
     }
 
     /// Whether the partition of a label was left as it was.
+    #[must_use]
     pub const fn has(self, label: Label) -> bool {
         self.0 >> label.number() & 1 == 1
     }
 
     /// The labels of the partitions that were left as they were, from low to high.
-    pub fn labels(self) -> impl Iterator<Item = Label> {
-        (0..32).filter_map(Label::from_number).filter(move |label| self.has(*label))
+    pub const fn labels(self) -> Labels {
+        Labels(self.0)
     }
 }
+
+impl From<Mask> for u32 {
+    fn from(mask: Mask) -> u32 {
+        mask.bits()
+    }
+}
+
+impl IntoIterator for Mask {
+    type Item = Label;
+    type IntoIter = Labels;
+
+    fn into_iter(self) -> Labels {
+        self.labels()
+    }
+}
+
+/// The labels of a mask, from low to high: of the bits that are left.
+#[derive(Clone, Debug)]
+#[must_use]
+pub struct Labels(u32);
+
+impl Iterator for Labels {
+    type Item = Label;
+
+    fn next(&mut self) -> Option<Label> {
+        let label = Label::from_number(self.0.trailing_zeros())?;
+        self.0 &= self.0 - 1;
+        Some(label)
+    }
+
+    fn size_hint(&self) -> (usize, Option<usize>) {
+        let count = self.0.count_ones() as usize;
+        (count, Some(count))
+    }
+}
+
+impl ExactSizeIterator for Labels {}
+
+impl FusedIterator for Labels {}
 
 /// Why a call is refused: the first cause that applies, in this order but for 11, which a grade tests right after 4, and 13 and
 /// 14, which an XML intake tests there. A refused call leaves the store and the output.
 #[derive(Clone, Copy, Debug, PartialEq, Eq, PartialOrd, Ord, Hash)]
+#[non_exhaustive]
 pub enum Refusal {
     /// 1: the store is not 41,088 bytes long.
     StoreLength = 1,
@@ -146,7 +201,7 @@ pub enum Refusal {
 
 impl Refusal {
     /// All refusals, in the order of their numbers.
-    pub const ALL: [Refusal; 14] = [
+    pub const ALL: &'static [Refusal] = &[
         Refusal::StoreLength,
         Refusal::Subject,
         Refusal::NotWellFormed,
@@ -164,32 +219,35 @@ impl Refusal {
     ];
 
     /// The number that the call answers.
+    #[must_use]
     pub const fn number(self) -> u32 {
         self as u32
     }
 
     /// The refusal of a number, if it is one.
+    #[must_use]
     pub fn from_number(number: u32) -> Option<Refusal> {
-        Refusal::ALL.into_iter().find(|refusal| refusal.number() == number)
+        Refusal::ALL.iter().copied().find(|refusal| refusal.number() == number)
     }
 
     /// The cause in words.
-    fn cause(self) -> &'static str {
+    #[must_use]
+    pub const fn cause(self) -> &'static str {
         match self {
-            Refusal::StoreLength => "the store is not 41088 bytes long",
+            Refusal::StoreLength => "the store is not 41,088 bytes long",
             Refusal::Subject => "the subject is no label",
             Refusal::NotWellFormed => "a partition that the subject dominates is not well formed",
-            Refusal::Path => "the path is none",
-            Refusal::Value => "the kind or the value is not allowed",
-            Refusal::OtherLabel => "the path's last label is not the subject's",
+            Refusal::Path => "the path is not valid",
+            Refusal::Value => "the value is not allowed",
+            Refusal::OtherLabel => "the path does not end in the subject's label",
             Refusal::Absent => "the path or its parent is not in view, or the element is not live",
             Refusal::Live => "the element is live already",
-            Refusal::Full => "the subject's partition has no room for it",
-            Refusal::OutputShort => "the output is shorter than the listing or the XML",
-            Refusal::Sizes => "the number of sizes is not 1 to 64",
-            Refusal::NoMeasure => "a path of the grade is no live measure's",
-            Refusal::Form => "the text is not in form",
-            Refusal::NotOwn => "a label of the text is not the subject's, or an element of it is removed",
+            Refusal::Full => "the label's partition has no room",
+            Refusal::OutputShort => "the output is too short for the view",
+            Refusal::Sizes => "the number of sizes of a grade is not 1 to 64",
+            Refusal::NoMeasure => "a path of the grade is in view and is no live measure's",
+            Refusal::Form => "the XML is not in form",
+            Refusal::NotOwn => "an element of the XML bears another label than the subject's, or is marked REMOVED",
         }
     }
 }
@@ -200,8 +258,11 @@ impl fmt::Display for Refusal {
     }
 }
 
+impl std::error::Error for Refusal {}
+
 /// Why a typed call gives no result.
 #[derive(Clone, Copy, Debug, PartialEq, Eq, Hash)]
+#[non_exhaustive]
 pub enum Error {
     /// The call was refused: its answer is the refusal's number, and 0 for all else.
     Refused(Refusal),
@@ -216,8 +277,18 @@ pub enum Error {
 }
 
 impl Error {
+    /// The refusal, if the call was refused.
+    #[must_use]
+    pub fn refusal(self) -> Option<Refusal> {
+        match self {
+            Error::Refused(refusal) => Some(refusal),
+            _ => None,
+        }
+    }
+
     /// What the call answered, number and count; nothing for an unexpected grade or migration, which have no count, and what does
     /// not read.
+    #[must_use]
     pub fn answer(self) -> Option<Answer> {
         match self {
             Error::Refused(refusal) => Some(Answer { number: refusal.number(), count: 0 }),
@@ -245,6 +316,12 @@ impl fmt::Display for Error {
 
 impl std::error::Error for Error {}
 
+impl From<Refusal> for Error {
+    fn from(refusal: Refusal) -> Error {
+        Error::Refused(refusal)
+    }
+}
+
 #[cfg(test)]
 mod tests {
     use super::*;
@@ -252,7 +329,7 @@ mod tests {
     #[test]
     fn an_answer_has_one_outcome() {
         assert_eq!(Answer { number: 0, count: 40 }.outcome(), Ok(40));
-        for (number, refusal) in (1..).zip(Refusal::ALL) {
+        for (number, refusal) in (1..).zip(Refusal::ALL.iter().copied()) {
             let answer = Answer { number, count: 0 };
             assert_eq!(answer.outcome(), Err(Error::Refused(refusal)));
             assert_eq!(Error::Refused(refusal).answer(), Some(answer));
@@ -274,7 +351,7 @@ mod tests {
         let answer = |number, step, remainder| GradeAnswer { number, step, remainder };
         assert_eq!(answer(0, -4, 2).outcome(), Ok(Grade { step: -4, remainder: 2 }));
         assert_eq!(answer(0, 0, 0).outcome(), Ok(Grade { step: 0, remainder: 0 }));
-        for (number, refusal) in (1..).zip(Refusal::ALL) {
+        for (number, refusal) in (1..).zip(Refusal::ALL.iter().copied()) {
             assert_eq!(answer(number, 0, 0).outcome(), Err(Error::Refused(refusal)));
         }
         for answer in
@@ -299,11 +376,12 @@ mod tests {
 
     #[test]
     fn a_mask_has_the_labels_of_its_bits() {
-        let numbers = |mask: u32| Mask(mask).labels().map(Label::number).collect::<Vec<_>>();
+        let numbers = |mask: u32| Mask(mask).into_iter().map(Label::number).collect::<Vec<_>>();
         assert_eq!(numbers(0), []);
         assert_eq!(numbers(544), [5, 9]);
         assert_eq!(numbers(0x8000_0001), [0, 31]);
         assert_eq!(numbers(u32::MAX), (0..32).collect::<Vec<_>>());
+        assert_eq!((Mask(544).labels().len(), u32::from(Mask(544))), (2, 544));
         let has = |number| Label::from_number(number).is_some_and(|label| Mask(544).has(label));
         assert_eq!((0..32).filter(|number| has(*number)).collect::<Vec<_>>(), [5, 9]);
     }
@@ -311,8 +389,7 @@ mod tests {
     #[test]
     fn a_refusal_says_its_number() {
         assert_eq!(Error::Refused(Refusal::Subject).to_string(), "refused by 2: the subject is no label");
-        assert_eq!(Error::Refused(Refusal::NoMeasure).to_string(), "refused by 12: a path of the grade is no live measure's");
-        assert_eq!(Error::Refused(Refusal::Form).to_string(), "refused by 13: the text is not in form");
+        assert_eq!(Error::from(Refusal::Form).to_string(), "refused by 13: the XML is not in form");
         let unexpected = Error::UnexpectedGrade(GradeAnswer { number: 7, step: -1, remainder: 2 });
         assert_eq!(unexpected.to_string(), "unexpected answer: number 7, step -1, remainder 2");
         let unexpected = Error::UnexpectedMigration(MigrationAnswer { number: 1, mask: 5 });

@@ -9,6 +9,7 @@ use std::fmt;
 use std::fs::{self, File, Metadata, OpenOptions, TryLockError};
 use std::hash::BuildHasher;
 use std::io::{self, ErrorKind, Read, Write};
+use std::ops::{Deref, DerefMut};
 use std::os::unix::fs::{fchown, FileExt, MetadataExt, OpenOptionsExt};
 use std::path::{Path, PathBuf};
 
@@ -18,9 +19,6 @@ use crate::{access_list, Store, STORE_BYTES};
 const OWNER_ALONE: u32 = 0o600;
 /// How many names are tried for the new file of a save.
 const TRIES: u32 = 100;
-
-/// A store's bytes.
-type Bytes = Box<[u8; STORE_BYTES]>;
 
 /// What to do where another holds the file's lock.
 #[derive(Clone, Copy, Debug, PartialEq, Eq)]
@@ -39,7 +37,7 @@ pub enum FileError {
     Open(io::Error),
     /// The file is a folder, a device or a pipe.
     NotRegular,
-    /// The file has this many bytes and not [`STORE_BYTES`].
+    /// The file has this many bytes and not [`STORE_BYTES`]; or the store that is to be saved has, and nothing was.
     NoStore(u64),
     /// There is a file of this name already.
     Exists,
@@ -58,12 +56,12 @@ pub enum FileError {
 impl fmt::Display for FileError {
     fn fmt(&self, out: &mut fmt::Formatter<'_>) -> fmt::Result {
         match self {
-            FileError::Open(error) => write!(out, "cannot be opened: {error}"),
-            FileError::NotRegular => write!(out, "is no regular file"),
-            FileError::NoStore(length) => write!(out, "is no store: it has {length} bytes, a store has {STORE_BYTES}"),
-            FileError::Exists => write!(out, "is there already"),
-            FileError::InUse => write!(out, "is in use"),
-            FileError::Lock(error) => write!(out, "cannot be locked: {error}"),
+            FileError::Open(error) => write!(out, "the file cannot be opened: {error}"),
+            FileError::NotRegular => write!(out, "it is no regular file"),
+            FileError::NoStore(length) => write!(out, "it is no store: it has {length} bytes, a store has {STORE_BYTES}"),
+            FileError::Exists => write!(out, "there is a file of this name already"),
+            FileError::InUse => write!(out, "the file is in use"),
+            FileError::Lock(error) => write!(out, "the file cannot be locked: {error}"),
             FileError::Changed => write!(out, "not saved: the file was changed meanwhile"),
             FileError::Save(error) => write!(out, "not saved: {error}"),
             FileError::NotSynced(error) => write!(out, "saved, but its folder is not synced: {error}"),
@@ -82,9 +80,13 @@ impl std::error::Error for FileError {
 
 /// Makes a file with an empty store, its owner's alone. No file is overwritten: a new file beside it is filled and then linked to
 /// the name, which the system refuses where there is one.
+///
+/// # Errors
+///
+/// Where there is a file of this name, or it cannot be made.
 pub fn create(path: &Path) -> Result<(), FileError> {
     let (mut file, new_name) = new_beside(path).map_err(FileError::Save)?;
-    let made = fill(&mut file, &[0; STORE_BYTES]).and_then(|()| fs::hard_link(&new_name, path));
+    let made = fill(&mut file, Store::empty().as_bytes()).and_then(|()| fs::hard_link(&new_name, path));
     let _ = fs::remove_file(&new_name);
     match made {
         Err(error) if error.kind() == ErrorKind::AlreadyExists => Err(FileError::Exists),
@@ -94,22 +96,31 @@ pub fn create(path: &Path) -> Result<(), FileError> {
 }
 
 /// Reads the store of a file under a shared lock, which is let go at once: the bytes are the caller's.
-pub fn read(path: &Path, wait: Wait) -> Result<Store<'static>, FileError> {
+///
+/// # Errors
+///
+/// Where the file cannot be opened, locked or read, or is no store.
+pub fn read(path: &Path, wait: Wait) -> Result<Store, FileError> {
     let opened = open_locked(path, Access::Shared, wait)?;
     read_store(&opened.file).map(Store::from)
 }
 
-/// A store that is read from a file and may be saved there. Nobody else who takes locks reads or saves it meanwhile.
+/// A store that is read from a file and may be saved there; it has all calls of a [`Store`]. Nobody else who takes locks reads or
+/// saves it meanwhile. What is not saved when it is dropped is lost.
 pub struct StoreFile {
     name: PathBuf,
     file: File,
     denied: Option<ErrorKind>,
-    read: Bytes,
-    store: Store<'static>,
+    read: Vec<u8>,
+    store: Store,
 }
 
 impl StoreFile {
     /// Opens a file and locks it, until this is dropped. Symbolic links are followed.
+    ///
+    /// # Errors
+    ///
+    /// Where the file cannot be opened, locked or read, or is no store.
     pub fn open(path: &Path, wait: Wait) -> Result<StoreFile, FileError> {
         let Opened { name, file, denied } = open_locked(path, Access::Alone, wait)?;
         let read = read_store(&file)?;
@@ -117,21 +128,19 @@ impl StoreFile {
         Ok(StoreFile { name, file, denied, read, store })
     }
 
-    /// The store.
-    pub fn store(&self) -> &Store<'static> {
-        &self.store
-    }
-
-    /// The store, to be changed.
-    pub fn store_mut(&mut self) -> &mut Store<'static> {
-        &mut self.store
-    }
-
     /// Saves the store by a new file, synced and renamed, if a byte has changed since it was read or saved: whether it has. The
     /// new file has the old one's mode, group and access list and, where the system allows it, its owner.
+    ///
+    /// # Errors
+    ///
+    /// Where the file is no longer the one that was read, or the new one cannot be made: the old store stays then.
     pub fn save(&mut self) -> Result<bool, FileError> {
-        if self.store.as_bytes() == &self.read[..] {
+        let bytes = self.store.as_bytes();
+        if bytes == self.read {
             return Ok(false);
+        }
+        if bytes.len() != STORE_BYTES {
+            return Err(FileError::NoStore(bytes.len() as u64));
         }
         if let Some(kind) = self.denied {
             return Err(FileError::Save(kind.into()));
@@ -142,7 +151,7 @@ impl StoreFile {
             return Err(error);
         }
         self.file = file;
-        self.read.copy_from_slice(self.store.as_bytes());
+        self.read.clone_from_slice(self.store.as_bytes());
         sync_folder(&self.name).map(|()| true)
     }
 
@@ -158,12 +167,32 @@ impl StoreFile {
 
     /// Whether the file that was read has the same bytes and still bears the name, which is looked at last.
     fn is_as_read(&self) -> bool {
-        let mut bytes = [0; STORE_BYTES];
+        let mut bytes = vec![0; STORE_BYTES];
         let length = self.file.metadata().map(|about| about.len());
         length.is_ok_and(|length| length == STORE_BYTES as u64)
             && self.file.read_exact_at(&mut bytes, 0).is_ok()
-            && bytes == *self.read
+            && self.read == bytes
             && bears(&self.name, &self.file)
+    }
+}
+
+impl Deref for StoreFile {
+    type Target = Store;
+
+    fn deref(&self) -> &Store {
+        &self.store
+    }
+}
+
+impl DerefMut for StoreFile {
+    fn deref_mut(&mut self) -> &mut Store {
+        &mut self.store
+    }
+}
+
+impl fmt::Debug for StoreFile {
+    fn fmt(&self, out: &mut fmt::Formatter<'_>) -> fmt::Result {
+        write!(out, "Store in {}", self.name.display())
     }
 }
 
@@ -234,12 +263,14 @@ fn bears(name: &Path, file: &File) -> bool {
 }
 
 /// The bytes of a file that has those of a store.
-fn read_store(file: &File) -> Result<Bytes, FileError> {
+fn read_store(file: &File) -> Result<Vec<u8>, FileError> {
     let mut bytes = Vec::with_capacity(STORE_BYTES + 1);
     file.take(STORE_BYTES as u64 + 1).read_to_end(&mut bytes).map_err(FileError::Open)?;
     let count = bytes.len() as u64;
-    let length = |_| FileError::NoStore(file.metadata().map_or(count, |about| about.len().max(count)));
-    bytes.into_boxed_slice().try_into().map_err(length)
+    if bytes.len() == STORE_BYTES {
+        return Ok(bytes);
+    }
+    Err(FileError::NoStore(file.metadata().map_or(count, |about| about.len().max(count))))
 }
 
 /// A new file beside this one: its name, a dot and six letters.

@@ -36,33 +36,51 @@ pub enum Compartment {
     Cost = 4,
 }
 
+impl fmt::Display for Level {
+    /// Its name, as in `house`.
+    fn fmt(&self, out: &mut fmt::Formatter<'_>) -> fmt::Result {
+        out.pad(name_of(&LEVELS, self))
+    }
+}
+
+impl fmt::Display for Compartment {
+    /// Its name, as in `sizing`.
+    fn fmt(&self, out: &mut fmt::Formatter<'_>) -> fmt::Result {
+        out.pad(name_of(&COMPARTMENTS, self))
+    }
+}
+
 /// A label: a number from 0 to 31, level × 8 + compartments.
 #[derive(Clone, Copy, Debug, PartialEq, Eq, Hash)]
 pub struct Label(u8);
 
 impl Label {
     /// The label of a level and some compartments.
+    #[must_use]
     pub fn new(level: Level, compartments: &[Compartment]) -> Label {
         let start = level as u8 * 8;
         Label(compartments.iter().fold(start, |number, compartment| number | *compartment as u8))
     }
 
     /// The label of a number, if it is one.
+    #[must_use]
     pub fn from_number(number: u32) -> Option<Label> {
         u8::try_from(number).ok().filter(|number| *number < 32).map(Label)
     }
 
+    /// All labels, in the order of their numbers.
+    pub fn all() -> impl ExactSizeIterator<Item = Label> {
+        (0..32).map(Label)
+    }
+
     /// The label's number.
+    #[must_use]
     pub const fn number(self) -> u32 {
         self.0 as u32
     }
 
-    /// The label as a byte of a path.
-    pub(crate) const fn byte(self) -> u8 {
-        self.0
-    }
-
     /// The label's level.
+    #[must_use]
     pub const fn level(self) -> Level {
         match self.0 / 8 {
             0 => Level::Open,
@@ -72,31 +90,58 @@ impl Label {
         }
     }
 
+    /// The label's compartments.
+    pub fn compartments(self) -> impl Iterator<Item = Compartment> {
+        COMPARTMENTS.into_iter().map(|(compartment, _)| compartment).filter(move |compartment| self.has(*compartment))
+    }
+
     /// Whether the label has a compartment.
+    #[must_use]
     pub const fn has(self, compartment: Compartment) -> bool {
         self.0 & compartment as u8 != 0
     }
 
     /// The label in words: its level and its compartments, as in `house+sizing`.
+    #[must_use]
     pub fn words(self) -> String {
-        let level = LEVELS.iter().filter(|(level, _)| *level == self.level()).map(|(_, name)| *name);
-        let compartments = COMPARTMENTS.iter().filter(|(compartment, _)| self.has(*compartment)).map(|(_, name)| *name);
-        level.chain(compartments).collect::<Vec<_>>().join("+")
+        self.compartments().fold(self.level().to_string(), |words, compartment| format!("{words}+{compartment}"))
     }
 
     /// Whether the label's level is at least the other's and its compartments include the other's.
+    #[must_use]
     pub const fn dominates(self, other: Label) -> bool {
         self.0 / 8 >= other.0 / 8 && self.0 & other.0 & 7 == other.0 & 7
     }
 }
 
 impl fmt::Display for Label {
+    /// Its number.
     fn fmt(&self, out: &mut fmt::Formatter<'_>) -> fmt::Result {
         self.0.fmt(out)
     }
 }
 
-/// A text that is no label.
+impl TryFrom<u32> for Label {
+    type Error = NoLabel;
+
+    fn try_from(number: u32) -> Result<Label, NoLabel> {
+        Label::from_number(number).ok_or(NoLabel)
+    }
+}
+
+impl From<Label> for u32 {
+    fn from(label: Label) -> u32 {
+        label.number()
+    }
+}
+
+impl From<Label> for u8 {
+    fn from(label: Label) -> u8 {
+        label.0
+    }
+}
+
+/// What is no label: a text or a number.
 #[derive(Clone, Copy, Debug, PartialEq, Eq)]
 pub struct NoLabel;
 
@@ -117,7 +162,7 @@ impl FromStr for Label {
     /// Reads a number from 0 to 31, or words: a level and then the compartments, each once, parted by `+`.
     fn from_str(text: &str) -> Result<Label, NoLabel> {
         if let Some(number) = number_of(text) {
-            return Label::from_number(number).ok_or(NoLabel);
+            return number.try_into();
         }
         let mut words = text.split('+');
         let level = find(&LEVELS, words.next()).ok_or(NoLabel)?;
@@ -129,6 +174,11 @@ impl FromStr for Label {
             Ok(Label(label.0 | compartment as u8))
         })
     }
+}
+
+/// The name of one of these.
+fn name_of<T: PartialEq>(named: &[(T, &'static str)], this: &T) -> &'static str {
+    named.iter().find(|(other, _)| other == this).map_or("", |(_, name)| *name)
 }
 
 /// What bears this name.
@@ -155,7 +205,8 @@ mod tests {
     #[test]
     fn no_number_is_narrowed_into_a_label() {
         assert_eq!((0..=31).filter_map(Label::from_number).map(Label::number).collect::<Vec<_>>(), (0..=31).collect::<Vec<_>>());
-        assert!([32, 255, 256, 287, u32::MAX].into_iter().all(|number| Label::from_number(number).is_none()));
+        assert!([32, 255, 256, 287, u32::MAX].into_iter().all(|number| Label::try_from(number) == Err(NoLabel)));
+        assert_eq!(Label::all().map(u32::from).collect::<Vec<_>>(), (0..=31).collect::<Vec<_>>());
     }
 
     #[test]

@@ -1,76 +1,124 @@
 //! What a view listed, read line by line.
 
+use std::borrow::Cow;
+use std::fmt;
+use std::iter::FusedIterator;
 use std::str;
 
 use crate::answer::Error;
 use crate::label::Label;
+use crate::path::Path;
 use crate::value::{Kind, Value};
 
-/// What a view wrote into the output that it was lent.
-#[derive(Clone, Copy, Debug, PartialEq, Eq)]
+/// What a view wrote, into bytes of its own or into the output that it was lent.
+#[derive(Clone, Debug, PartialEq, Eq)]
 pub struct View<'a> {
-    listing: &'a [u8],
+    listing: Cow<'a, [u8]>,
+    path: Path,
 }
 
 impl<'a> View<'a> {
-    /// The first bytes of an output, if it has so many.
-    pub(crate) fn of(output: &'a [u8], count: u64) -> Option<View<'a>> {
-        let listing = output.get(..usize::try_from(count).ok()?)?;
-        Some(View { listing })
+    /// The view of a path with this listing.
+    pub(crate) fn new(listing: Cow<'a, [u8]>, path: &Path) -> View<'a> {
+        View { listing, path: path.clone() }
     }
 
     /// The bytes written: the printed view, its first line included.
-    pub fn listing(&self) -> &'a [u8] {
-        self.listing
+    #[must_use]
+    pub fn listing(&self) -> &[u8] {
+        &self.listing
+    }
+
+    /// The bytes written, to be kept.
+    #[must_use]
+    pub fn into_listing(self) -> Vec<u8> {
+        self.listing.into_owned()
+    }
+
+    /// The path that was viewed.
+    #[must_use]
+    pub fn path(&self) -> &Path {
+        &self.path
     }
 
     /// The elements listed, in path order.
-    pub fn lines(&self) -> Lines<'a> {
-        let (_, rest) = split_line(self.listing);
-        Lines { rest }
+    pub fn lines(&self) -> Lines<'_> {
+        let (_, rest) = split_line(&self.listing);
+        Lines { rest, before: self.path.clone() }
     }
 }
 
-/// The lines of a view behind its first.
-#[derive(Clone, Debug)]
-pub struct Lines<'a> {
-    rest: &'a [u8],
+impl fmt::Display for View<'_> {
+    /// The listing.
+    fn fmt(&self, out: &mut fmt::Formatter<'_>) -> fmt::Result {
+        out.write_str(&String::from_utf8_lossy(&self.listing))
+    }
 }
 
-impl<'a> Iterator for Lines<'a> {
-    type Item = Result<Line<'a>, Error>;
+impl<'v> IntoIterator for &'v View<'_> {
+    type Item = Result<Line<'v>, Error>;
+    type IntoIter = Lines<'v>;
+
+    fn into_iter(self) -> Lines<'v> {
+        self.lines()
+    }
+}
+
+/// The lines of a view behind its first. A line that does not read as one is an [`Error::Unreadable`], and the last.
+#[derive(Clone, Debug)]
+#[must_use]
+pub struct Lines<'v> {
+    rest: &'v [u8],
+    /// The path of the line before, or the one that was viewed.
+    before: Path,
+}
+
+impl<'v> Iterator for Lines<'v> {
+    type Item = Result<Line<'v>, Error>;
 
     fn next(&mut self) -> Option<Self::Item> {
         if self.rest.is_empty() {
             return None;
         }
         let (line, rest) = split_line(self.rest);
-        self.rest = rest;
-        Some(line.and_then(read_line).ok_or(Error::Unreadable))
+        let read = line.and_then(|line| read_line(line, &mut self.before));
+        self.rest = if read.is_some() { rest } else { &[] };
+        Some(read.ok_or(Error::Unreadable))
     }
 }
 
+impl FusedIterator for Lines<'_> {}
+
 /// An element listed.
-#[derive(Clone, Copy, Debug, PartialEq, Eq, Hash)]
-pub struct Line<'a> {
-    /// How many steps its path has, from the root.
-    pub depth: u8,
+#[derive(Clone, Debug, PartialEq, Eq, Hash)]
+#[non_exhaustive]
+pub struct Line<'v> {
+    /// Its path, from the root on.
+    pub path: Path,
     /// The name of its last step.
     pub name: u16,
     /// Its label.
     pub label: Label,
     /// Whether it is live, and with which value.
-    pub mark: Mark<'a>,
+    pub mark: Mark<'v>,
 }
 
-impl<'a> Line<'a> {
+impl<'v> Line<'v> {
+    /// How many steps its path has.
+    #[must_use]
+    pub fn depth(&self) -> usize {
+        self.path.depth()
+    }
+
     /// Whether the element is live.
+    #[must_use]
     pub fn is_live(&self) -> bool {
         self.mark != Mark::Removed
     }
 
     /// The value of a live element.
-    pub fn value(&self) -> Option<Value<'a>> {
+    #[must_use]
+    pub fn value(&self) -> Option<Value<'v>> {
         match self.mark {
             Mark::Live(value) => Some(value),
             Mark::Removed => None,
@@ -78,6 +126,7 @@ impl<'a> Line<'a> {
     }
 
     /// The kind of a live element.
+    #[must_use]
     pub fn kind(&self) -> Option<Kind> {
         self.value().map(|value| value.kind())
     }
@@ -85,9 +134,9 @@ impl<'a> Line<'a> {
 
 /// Whether an element is live or removed.
 #[derive(Clone, Copy, Debug, PartialEq, Eq, Hash)]
-pub enum Mark<'a> {
+pub enum Mark<'v> {
     /// Live, with a value.
-    Live(Value<'a>),
+    Live(Value<'v>),
     /// Removed: something live still stands below it.
     Removed,
 }
@@ -101,21 +150,24 @@ fn split_line(bytes: &[u8]) -> (Option<&[u8]>, &[u8]) {
     }
 }
 
-/// A line of six fields, if it is one.
-fn read_line(line: &[u8]) -> Option<Line<'_>> {
+/// A line of six fields, if it is one and may stand behind that of the path before it: the steps above it are that path's first.
+/// The path before becomes the line's.
+fn read_line<'v>(line: &'v [u8], before: &mut Path) -> Option<Line<'v>> {
     let mut fields = str::from_utf8(line).ok()?.split('\t');
-    let depth = fields.next()?.parse().ok()?;
+    let above = fields.next()?.parse::<usize>().ok()?.checked_sub(1).filter(|above| *above <= before.depth())?;
     let name = fields.next()?.parse().ok()?;
-    let label = Label::from_number(fields.next()?.parse().ok()?)?;
+    let label = fields.next()?.parse::<u32>().ok()?.try_into().ok()?;
     let mark = read_mark(fields.next()?, fields.next()?, fields.next()?)?;
-    match fields.next() {
-        None => Some(Line { depth, name, label, mark }),
-        Some(_) => None,
+    if fields.next().is_some() {
+        return None;
     }
+    before.cut(above);
+    before.push(name, label);
+    Some(Line { path: before.clone(), name, label, mark })
 }
 
 /// The fields of the mark, the kind and the value.
-fn read_mark<'a>(mark: &str, kind: &str, value: &'a str) -> Option<Mark<'a>> {
+fn read_mark<'v>(mark: &str, kind: &str, value: &'v str) -> Option<Mark<'v>> {
     match (mark, kind, value) {
         ("R", "-", "-") => Some(Mark::Removed),
         ("P", "G", "-") => Some(Mark::Live(Value::Group)),
@@ -129,34 +181,52 @@ fn read_mark<'a>(mark: &str, kind: &str, value: &'a str) -> Option<Mark<'a>> {
 mod tests {
     use super::*;
 
-    /// The lines of a listing.
-    fn lines(listing: &[u8]) -> Vec<Result<Line<'_>, Error>> {
-        View { listing }.lines().collect()
+    /// The view of a path with a listing.
+    fn view<'a>(path: &str, listing: &'a str) -> View<'a> {
+        View::new(listing.as_bytes().into(), &path.parse().expect("a path"))
+    }
+
+    /// What a line of a listing says, in words.
+    fn told(line: Result<Line, Error>) -> String {
+        line.map_or_else(|error| error.to_string(), |line| format!("{} {:?} {:?}", line.path, line.kind(), line.value()))
     }
 
     #[test]
     fn the_first_line_is_not_listed() {
-        assert_eq!(lines(b"VIEW\t0\t0\n"), []);
-        assert_eq!(lines(b"VIEW\t0\t1\n1\t10\t0\tP\tG\t-\n").len(), 1);
+        assert_eq!(view("/", "VIEW\t0\t0\n").lines().count(), 0);
+        assert_eq!(view("/", "VIEW\t0\t1\n1\t10\t0\tP\tG\t-\n").lines().count(), 1);
     }
 
     #[test]
     fn a_text_is_never_mistaken() {
-        let listed = lines(b"VIEW\t0\t1\n6\t65535\t31\tP\tT\t-\n");
-        assert_eq!(listed.len(), 1);
-        let line = listed[0].expect("a line");
-        assert_eq!((line.depth, line.name, line.label.number()), (6, 65535, 31));
+        let listed = view("1:31/2:31/3:31/4:31/5:31/65535:31", "VIEW\t0\t1\n6\t65535\t31\tP\tT\t-\n");
+        let line = listed.lines().next().expect("a line").expect("that reads");
+        assert_eq!((line.depth(), line.name, line.label.number()), (6, 65535, 31));
         assert_eq!((line.value(), line.kind(), line.is_live()), (Some(Value::Text("-")), Some(Kind::Text), true));
     }
 
     #[test]
     fn a_removed_element_has_no_value() {
-        let line = lines(b"VIEW\t16\t1\n1\t10\t0\tR\t-\t-\n")[0].expect("a line");
+        let listed = view("/", "VIEW\t16\t1\n1\t10\t0\tR\t-\t-\n");
+        let line = listed.lines().next().expect("a line").expect("that reads");
         assert_eq!((line.value(), line.kind(), line.is_live()), (None, None, false));
     }
 
     #[test]
-    fn what_is_no_line_is_unreadable() {
+    fn a_line_has_its_whole_path() {
+        let lines = "2\t20\t0\tR\t-\t-\n3\t30\t16\tP\tM\t-150\n4\t1\t16\tP\tG\t-\n3\t31\t16\tP\tT\tA\n";
+        let listed = view("10:0/20:0", &format!("VIEW\t16\t4\n{lines}")).into_iter().map(told).collect::<Vec<_>>();
+        let expected = [
+            "10:0/20:0 None None",
+            "10:0/20:0/30:16 Some(Measure) Some(Measure(-150))",
+            "10:0/20:0/30:16/1:16 Some(Group) Some(Group)",
+            "10:0/20:0/31:16 Some(Text) Some(Text(\"A\"))",
+        ];
+        assert_eq!(listed, expected);
+    }
+
+    #[test]
+    fn what_is_no_line_is_unreadable_and_the_last() {
         for line in [
             "",
             "1\t10\t0\tP\tG",
@@ -165,16 +235,20 @@ mod tests {
             "1\t10\t0\tR\tG\t-",
             "1\t10\t0\tP\tM\tx",
             "1\t10\t0\tP\tG\t-\t7",
+            "0\t10\t0\tP\tG\t-",
+            "2\t10\t0\tP\tG\t-",
         ] {
-            let listing = format!("VIEW\t0\t1\n{line}\n");
-            assert_eq!(lines(listing.as_bytes()), [Err(Error::Unreadable)], "{line}");
+            let listing = format!("VIEW\t0\t2\n{line}\n1\t10\t0\tP\tG\t-\n");
+            assert_eq!(view("/", &listing).lines().collect::<Vec<_>>(), [Err(Error::Unreadable)], "{line}");
         }
-        assert_eq!(lines(b"VIEW\t0\t1\n1\t10\t0\tP\tG\t-"), [Err(Error::Unreadable)]);
+        let unended = view("/", "VIEW\t0\t1\n1\t10\t0\tP\tG\t-");
+        assert_eq!(unended.lines().collect::<Vec<_>>(), [Err(Error::Unreadable)]);
     }
 
     #[test]
-    fn a_count_over_the_output_is_no_view() {
-        assert_eq!(View::of(b"VIEW", 5), None);
-        assert_eq!(View::of(b"VIEW", u64::MAX), None);
+    fn a_view_is_shown_as_its_listing() {
+        let listing = "VIEW\t16\t1\n1\t10\t0\tR\t-\t-\n";
+        assert_eq!(view("/", listing).to_string(), listing);
+        assert_eq!(view("/", listing).into_listing(), listing.as_bytes());
     }
 }

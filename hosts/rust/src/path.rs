@@ -1,47 +1,166 @@
 //! Paths, as the calls take them.
 
 use std::fmt;
+use std::iter::FusedIterator;
+use std::slice::ChunksExact;
 use std::str::FromStr;
 
 use crate::label::Label;
 
+/// How many bytes a step has.
+const STEP_BYTES: usize = 3;
+
 /// A path: steps of a name and a label. A path that the calls do not allow can be built too; they refuse it by 4.
-#[derive(Clone, Debug, Default, PartialEq, Eq, Hash)]
+#[derive(Clone, Default, PartialEq, Eq, Hash)]
 pub struct Path(Vec<u8>);
 
 impl Path {
     /// The root: no step.
+    #[must_use]
     pub fn root() -> Path {
         Path(Vec::new())
     }
 
     /// The path with one more step.
+    #[must_use]
     pub fn child(&self, name: u16, label: Label) -> Path {
-        let mut bytes = self.0.clone();
-        bytes.extend_from_slice(&name.to_le_bytes());
-        bytes.push(label.byte());
-        Path(bytes)
+        let mut path = self.clone();
+        path.push(name, label);
+        path
+    }
+
+    /// The path without its last step; the root has none.
+    #[must_use]
+    pub fn parent(&self) -> Option<Path> {
+        self.depth().checked_sub(1).map(|depth| self.prefix(depth))
     }
 
     /// Three bytes a step: the name, lowest byte first, then the label.
+    #[must_use]
     pub fn as_bytes(&self) -> &[u8] {
         &self.0
     }
 
     /// How many steps it has.
+    #[must_use]
     pub fn depth(&self) -> usize {
-        self.0.len() / 3
+        self.0.len() / STEP_BYTES
     }
 
     /// The names and labels of its steps, from the root on.
-    pub fn steps(&self) -> impl Iterator<Item = (u16, Label)> + '_ {
-        let label = |byte: u8| Label::from_number(byte.into()).expect("only labels are put into a path");
-        self.0.chunks_exact(3).map(move |step| (u16::from_le_bytes([step[0], step[1]]), label(step[2])))
+    pub fn steps(&self) -> Steps<'_> {
+        Steps(self.0.chunks_exact(STEP_BYTES))
     }
 
     /// The path of its first steps, at most this many.
+    #[must_use]
     pub fn prefix(&self, depth: usize) -> Path {
-        Path(self.0[..self.0.len().min(3 * depth)].to_vec())
+        Path(self.0[..self.0.len().min(STEP_BYTES.saturating_mul(depth))].to_vec())
+    }
+
+    /// Keeps the first steps, at most this many.
+    pub(crate) fn cut(&mut self, depth: usize) {
+        self.0.truncate(STEP_BYTES.saturating_mul(depth));
+    }
+
+    /// Adds a step.
+    pub(crate) fn push(&mut self, name: u16, label: Label) {
+        let [low, high] = name.to_le_bytes();
+        self.0.extend([low, high, label.into()]);
+    }
+}
+
+/// The steps of a path.
+#[derive(Clone, Debug)]
+#[must_use]
+pub struct Steps<'a>(ChunksExact<'a, u8>);
+
+impl Iterator for Steps<'_> {
+    type Item = (u16, Label);
+
+    fn next(&mut self) -> Option<(u16, Label)> {
+        let &[low, high, label] = self.0.next()? else { return None };
+        Some((u16::from_le_bytes([low, high]), u32::from(label).try_into().ok()?))
+    }
+
+    fn size_hint(&self) -> (usize, Option<usize>) {
+        self.0.size_hint()
+    }
+}
+
+impl ExactSizeIterator for Steps<'_> {}
+
+impl FusedIterator for Steps<'_> {}
+
+impl<'a> IntoIterator for &'a Path {
+    type Item = (u16, Label);
+    type IntoIter = Steps<'a>;
+
+    fn into_iter(self) -> Steps<'a> {
+        self.steps()
+    }
+}
+
+impl Extend<(u16, Label)> for Path {
+    fn extend<I: IntoIterator<Item = (u16, Label)>>(&mut self, steps: I) {
+        for (name, label) in steps {
+            self.push(name, label);
+        }
+    }
+}
+
+impl FromIterator<(u16, Label)> for Path {
+    fn from_iter<I: IntoIterator<Item = (u16, Label)>>(steps: I) -> Path {
+        let mut path = Path::root();
+        path.extend(steps);
+        path
+    }
+}
+
+impl<const N: usize> From<[(u16, Label); N]> for Path {
+    fn from(steps: [(u16, Label); N]) -> Path {
+        Path::from_iter(steps)
+    }
+}
+
+impl From<Path> for Vec<u8> {
+    fn from(path: Path) -> Vec<u8> {
+        path.0
+    }
+}
+
+impl AsRef<[u8]> for Path {
+    fn as_ref(&self) -> &[u8] {
+        self.as_bytes()
+    }
+}
+
+impl TryFrom<Vec<u8>> for Path {
+    type Error = NoPath;
+
+    /// The path of these bytes, three a step; labels over 31 are none.
+    fn try_from(bytes: Vec<u8>) -> Result<Path, NoPath> {
+        let (steps, rest) = bytes.as_chunks::<STEP_BYTES>();
+        let is_path = rest.is_empty() && steps.iter().all(|[_, _, label]| Label::try_from(u32::from(*label)).is_ok());
+        if is_path {
+            Ok(Path(bytes))
+        } else {
+            Err(NoPath)
+        }
+    }
+}
+
+impl TryFrom<&[u8]> for Path {
+    type Error = NoPath;
+
+    fn try_from(bytes: &[u8]) -> Result<Path, NoPath> {
+        bytes.to_vec().try_into()
+    }
+}
+
+impl fmt::Debug for Path {
+    fn fmt(&self, out: &mut fmt::Formatter<'_>) -> fmt::Result {
+        write!(out, "Path({self})")
     }
 }
 
@@ -49,12 +168,11 @@ impl fmt::Display for Path {
     /// As in a script: steps `NAME:LABEL` parted by `/`, a lone `/` for the root.
     fn fmt(&self, out: &mut fmt::Formatter<'_>) -> fmt::Result {
         let steps: Vec<String> = self.steps().map(|(name, label)| format!("{name}:{label}")).collect();
-        out.write_str(if steps.is_empty() { "/" } else { "" })?;
-        out.write_str(&steps.join("/"))
+        out.pad(if steps.is_empty() { "/".to_owned() } else { steps.join("/") }.as_str())
     }
 }
 
-/// A text that is no path.
+/// What is no path: a text or bytes.
 #[derive(Clone, Copy, Debug, PartialEq, Eq)]
 pub struct NoPath;
 
@@ -108,7 +226,22 @@ mod tests {
         let path: Path = "10:open/20:house+sizing".parse().expect("a path");
         assert_eq!(path.as_bytes(), [10, 0, 0, 20, 0, 17]);
         assert_eq!((path.depth(), path.prefix(1).to_string(), path.prefix(9)), (2, "10:0".to_string(), path.clone()));
+        assert_eq!(format!("{path:?} {path:>11} {:<2}.", Path::root()), "Path(10:0/20:17)  10:0/20:17 / .");
         assert_eq!(path.steps().map(|(name, label)| (name, label.number())).collect::<Vec<_>>(), [(10, 0), (20, 17)]);
+    }
+
+    #[test]
+    fn a_path_is_made_of_steps_and_of_bytes() {
+        let (open, house) = (Label::new(Level::Open, &[]), Label::new(Level::House, &[]));
+        let path = Path::from([(258, open), (10, house)]);
+        assert_eq!(path, Path::root().child(258, open).child(10, house));
+        assert_eq!((path.steps().len(), path.parent(), Path::root().parent()), (2, Some(Path::from([(258, open)])), None));
+        assert_eq!(path.into_iter().collect::<Path>(), path);
+        assert_eq!(Path::try_from(&[2, 1, 0, 10, 0, 16][..]), Ok(path.clone()));
+        assert_eq!(Vec::from(path), [2, 1, 0, 10, 0, 16]);
+        for bytes in [&[2, 1][..], &[2, 1, 32], &[2, 1, 0, 7], &[2, 1, 255, 1, 0, 0]] {
+            assert_eq!(Path::try_from(bytes), Err(NoPath), "{bytes:?}");
+        }
     }
 
     #[test]

@@ -1,5 +1,7 @@
 //! Kinds and values.
 
+use std::fmt;
+
 /// The kind of a value.
 #[derive(Clone, Copy, Debug, PartialEq, Eq, Hash)]
 pub enum Kind {
@@ -13,8 +15,20 @@ pub enum Kind {
 
 impl Kind {
     /// The kind's number.
+    #[must_use]
     pub const fn number(self) -> u32 {
         self as u32
+    }
+}
+
+impl fmt::Display for Kind {
+    /// Its name, as in `measure`.
+    fn fmt(&self, out: &mut fmt::Formatter<'_>) -> fmt::Result {
+        out.pad(match self {
+            Kind::Group => "group",
+            Kind::Measure => "measure",
+            Kind::Text => "text",
+        })
     }
 }
 
@@ -31,6 +45,7 @@ pub enum Value<'a> {
 
 impl Value<'_> {
     /// The value's kind.
+    #[must_use]
     pub const fn kind(&self) -> Kind {
         match self {
             Value::Group => Kind::Group,

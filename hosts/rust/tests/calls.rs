@@ -2,7 +2,7 @@
 //! back, grades, styles taken in as XML, missing groups, the order of versions, and the migration of stores written before.
 
 use dossier::{
-    raw, Answer, Error, Grade, GradeAnswer, Label, Line, Mark, Mask, MigrationAnswer, Path, Refusal, Store, Value,
+    raw, Answer, Error, Grade, GradeAnswer, Label, Line, Mark, Mask, MigrationAnswer, Path, Refusal, Store, Value, View,
     LISTING_BYTES_MAX, PARTITION_BYTES, STORE_BYTES, XML_BYTES_MAX,
 };
 
@@ -37,14 +37,14 @@ fn refused<T>(refusal: Refusal) -> Result<T, Error> {
 }
 
 /// The three calls of the example that change the store.
-fn make_example(store: &mut Store) {
+fn make_example<B: AsMut<[u8]>>(store: &mut Store<B>) {
     assert_eq!(store.insert(label(0), &path(&[(10, 0)]), Value::Group), Ok(0));
     assert_eq!(store.insert(label(16), &path(&[(10, 0), (20, 16)]), Value::Measure(-150)), Ok(0));
     assert_eq!(store.delete(label(0), &path(&[(10, 0)])), Ok(1));
 }
 
 /// A store after the example.
-fn example() -> Store<'static> {
+fn example() -> Store {
     let mut store = Store::empty();
     make_example(&mut store);
     store
@@ -108,11 +108,12 @@ fn assert_refused(store: &mut [u8], subject: u32, call: Call, number: u32) {
 fn the_example_fits_40_bytes() {
     let store = example();
     let mut output = [FILL; 64];
-    let view = store.view(label(16), &Path::root(), &mut output[..40]).expect("a view");
+    let view = store.view_into(label(16), &Path::root(), &mut output[..40]).expect("a view");
     assert_eq!(view.listing(), LISTING);
     let lines = view.lines().collect::<Result<Vec<_>, _>>();
-    let removed = Line { depth: 1, name: 10, label: label(0), mark: Mark::Removed };
-    let live = Line { depth: 2, name: 20, label: label(16), mark: Mark::Live(Value::Measure(-150)) };
+    let lines = lines.map(|lines| lines.into_iter().map(|line| (line.path, line.mark)).collect::<Vec<_>>());
+    let removed = (path(&[(10, 0)]), Mark::Removed);
+    let live = (path(&[(10, 0), (20, 16)]), Mark::Live(Value::Measure(-150)));
     assert_eq!(lines, Ok(vec![removed, live]));
     assert_eq!(output[40..], [FILL; 24]);
 }
@@ -121,7 +122,7 @@ fn the_example_fits_40_bytes() {
 fn the_example_in_39_bytes_is_refused_by_10() {
     let store = example();
     let mut output = [FILL; 64];
-    assert_eq!(store.view(label(16), &Path::root(), &mut output[..39]), refused(Refusal::OutputShort));
+    assert_eq!(store.view_into(label(16), &Path::root(), &mut output[..39]), refused(Refusal::OutputShort));
     assert_eq!(output, [FILL; 64]);
 }
 
@@ -131,7 +132,7 @@ fn bytes_behind_a_listing_keep_their_contents() {
     let before = store.as_bytes().to_vec();
     let mut output = [FILL; 64];
     assert_eq!(
-        store.view(label(0), &Path::root(), &mut output).map(|view| view.listing().to_vec()),
+        store.view_into(label(0), &Path::root(), &mut output).map(|view| view.listing().to_vec()),
         Ok(b"VIEW\t0\t0\n".to_vec())
     );
     assert_eq!(output[9..], [FILL; 55]);
@@ -143,13 +144,13 @@ fn a_removed_element_comes_again() {
     let mut store = example();
     assert_eq!(store.insert(label(0), &path(&[(10, 0)]), Value::Text("SLEEVE")), Ok(0));
     let mut output = vec![0; LISTING_BYTES_MAX];
-    let view = store.view(label(16), &path(&[(10, 0)]), &mut output).expect("a view");
+    let view = store.view_into(label(16), &path(&[(10, 0)]), &mut output).expect("a view");
     let values = view.lines().map(|line| line.map(|line| line.value())).collect::<Result<Vec<_>, _>>();
     assert_eq!(values, Ok(vec![Some(Value::Text("SLEEVE")), Some(Value::Measure(-150))]));
 }
 
 /// A store with 10:0, 10:0/20:0 and 10:0/20:0/30:0 of these values, and 10:0/20:0/25:16, a measure.
-fn nested(values: [Value; 3]) -> Store<'static> {
+fn nested(values: [Value; 3]) -> Store {
     let mut store = Store::empty();
     let steps = [(10, 0), (20, 0), (30, 0)];
     for (depth, value) in (1..).zip(values) {
@@ -162,7 +163,7 @@ fn nested(values: [Value; 3]) -> Store<'static> {
 /// What a subject sees of all.
 fn seen(store: &Store, subject: u32) -> String {
     let mut output = [0; 256];
-    let view = store.view(label(subject), &Path::root(), &mut output).expect("a view");
+    let view = store.view_into(label(subject), &Path::root(), &mut output).expect("a view");
     String::from_utf8_lossy(view.listing()).into_owned()
 }
 
@@ -250,9 +251,8 @@ fn a_borrowed_store_is_written_in_place() {
     let mut bytes = vec![0; STORE_BYTES];
     make_example(&mut Store::from(&mut bytes[..]));
     assert!(bytes == example().as_bytes());
-    let boxed: Box<[u8; STORE_BYTES]> = bytes.into_boxed_slice().try_into().expect("the length of a store");
     let mut output = [0; 40];
-    assert_eq!(Store::from(boxed).view(label(16), &Path::root(), &mut output).map(|view| view.listing()), Ok(LISTING));
+    assert_eq!(Store::from(bytes).view_into(label(16), &Path::root(), &mut output).map(View::into_listing), Ok(LISTING.into()));
 }
 
 #[test]
@@ -263,8 +263,8 @@ fn refusal_1_store_of_another_length() {
             assert_refused(&mut bytes, 40, call, 1);
         }
         let mut store = Store::from(&mut bytes[..]);
-        assert_eq!(store.view(label(0), &Path::root(), &mut [0; 64]), refused(Refusal::StoreLength));
-        assert_eq!(store.view_xml(label(0), &Path::root(), &mut [0; 64]), refused(Refusal::StoreLength));
+        assert_eq!(store.view_into(label(0), &Path::root(), &mut [0; 64]), refused(Refusal::StoreLength));
+        assert_eq!(store.view_xml_into(label(0), &Path::root(), &mut [0; 64]), refused(Refusal::StoreLength));
         assert_eq!(store.grade(label(0), &path(&[(10, 0)]), &Path::root(), 0), refused(Refusal::StoreLength));
         assert_eq!(store.insert(label(0), &path(&[(10, 0)]), Value::Group), refused(Refusal::StoreLength));
         assert_eq!(store.update(label(0), &path(&[(10, 0)]), Value::Group), refused(Refusal::StoreLength));
@@ -292,10 +292,10 @@ fn refusal_3_partition_not_well_formed() {
             assert_refused(store.as_mut_bytes(), subject, call, 3);
         }
     }
-    assert!(store.view(label(15), &Path::root(), &mut [0; 64]).is_ok());
-    assert!(store.view_xml(label(15), &Path::root(), &mut [0; 64]).is_ok());
-    assert_eq!(store.view(label(16), &Path::root(), &mut [0; 64]), refused(Refusal::NotWellFormed));
-    assert_eq!(store.view_xml(label(16), &Path::root(), &mut [0; 64]), refused(Refusal::NotWellFormed));
+    assert!(store.view_into(label(15), &Path::root(), &mut [0; 64]).is_ok());
+    assert!(store.view_xml_into(label(15), &Path::root(), &mut [0; 64]).is_ok());
+    assert_eq!(store.view_into(label(16), &Path::root(), &mut [0; 64]), refused(Refusal::NotWellFormed));
+    assert_eq!(store.view_xml_into(label(16), &Path::root(), &mut [0; 64]), refused(Refusal::NotWellFormed));
     assert_eq!(store.grade(label(16), &Path::root(), &Path::root(), 1), refused(Refusal::NotWellFormed));
     assert_eq!(store.grade(label(15), &Path::root(), &Path::root(), 1), refused(Refusal::NoMeasure));
     assert_eq!(store.insert_xml(label(16), &Path::root(), ""), refused(Refusal::NotWellFormed));
@@ -376,13 +376,13 @@ fn the_smallest_measure_comes_back() {
     let mut store = Store::empty();
     assert_eq!(store.insert(label(0), &path(&[(10, 0)]), Value::Measure(i32::MIN)), Ok(0));
     let mut output = [0; 64];
-    let view = store.view(label(0), &Path::root(), &mut output).expect("a view");
+    let view = store.view_into(label(0), &Path::root(), &mut output).expect("a view");
     assert_eq!(view.listing(), b"VIEW\t0\t1\n1\t10\t0\tP\tM\t-2147483648\n");
     assert_eq!(view.lines().next().and_then(Result::ok).and_then(|line| line.value()), Some(Value::Measure(i32::MIN)));
 }
 
 /// The store of the worked examples of XML: 10:0 and below it 7:0 and 20:16, 5:16 below 20:16, and 11:16; 0 deletes 10:0.
-fn worked() -> Store<'static> {
+fn worked() -> Store {
     let mut store = Store::empty();
     for (subject, steps, value) in [
         (0, &[(10, 0)][..], Value::Group),
@@ -415,13 +415,13 @@ fn xml_of_the_worked_examples() {
         let expected = format!(r#"<dossier subject="{subject}">{elements}</dossier>"#);
         let mut output = [FILL; 300];
         assert_eq!(expected.len(), length);
-        assert_eq!(store.view_xml(label(subject), &path(steps), &mut output[..length]), Ok(&expected[..]));
+        assert_eq!(store.view_xml_into(label(subject), &path(steps), &mut output[..length]), Ok(&expected[..]));
         assert_eq!(output[length..], [FILL; 300][length..]);
         let mut output = [FILL; 300];
-        assert_eq!(store.view_xml(label(subject), &path(steps), &mut output[..length - 1]), refused(Refusal::OutputShort));
+        assert_eq!(store.view_xml_into(label(subject), &path(steps), &mut output[..length - 1]), refused(Refusal::OutputShort));
         assert_eq!(output, [FILL; 300]);
     }
-    assert_eq!(store.view_xml(label(16), &path(&[(9, 0)]), &mut [0; 300]), refused(Refusal::Absent));
+    assert_eq!(store.view_xml_into(label(16), &path(&[(9, 0)]), &mut [0; 300]), refused(Refusal::Absent));
 }
 
 #[test]
@@ -429,23 +429,23 @@ fn bytes_behind_xml_keep_their_contents() {
     let store = worked();
     let before = store.as_bytes().to_vec();
     let mut output = vec![FILL; XML_BYTES_MAX];
-    assert_eq!(store.view_xml(label(16), &Path::root(), &mut output).map(str::len), Ok(259));
+    assert_eq!(store.view_xml_into(label(16), &Path::root(), &mut output).map(str::len), Ok(259));
     assert!(output[259..].iter().all(|byte| *byte == FILL));
     assert!(store.as_bytes() == before);
 }
 
 /// An element, of a listing or read from XML: depth, name and label, and what its attributes preserve and kind and its value are.
-type Element = (u8, u16, u32, String, String, String);
+type Element = (usize, u16, u32, String, String, String);
 
 /// An element of a listing.
-fn listed(line: Line) -> Element {
+fn listed(line: &Line) -> Element {
     let (preserve, kind, value) = match line.mark {
         Mark::Removed => ("REMOVED", "-", String::new()),
         Mark::Live(Value::Group) => ("PRESENT", "G", String::new()),
         Mark::Live(Value::Measure(number)) => ("PRESENT", "M", number.to_string()),
         Mark::Live(Value::Text(text)) => ("PRESENT", "T", text.to_string()),
     };
-    (line.depth, line.name, line.label.number(), preserve.to_string(), kind.to_string(), value)
+    (line.depth(), line.name, line.label.number(), preserve.to_string(), kind.to_string(), value)
 }
 
 /// What stands between the quotes of an attribute of this name.
@@ -474,7 +474,7 @@ fn read_xml(xml: &str, subject: u32, top: usize) -> Vec<Element> {
         assert!(!text.contains('>'), "{text}");
         let value = text.replace("&lt;", "<").replace("&gt;", ">").replace("&amp;", "&");
         let (depth, label) = (top + open.len(), label.parse().expect("a label"));
-        elements.push((depth as u8, name.parse().expect("a number"), label, preserve.to_string(), kind.to_string(), value));
+        elements.push((depth, name.parse().expect("a number"), label, preserve.to_string(), kind.to_string(), value));
         open.push(name);
     }
     assert_eq!(open, [""; 0]);
@@ -484,15 +484,15 @@ fn read_xml(xml: &str, subject: u32, top: usize) -> Vec<Element> {
 /// The XML of a view has the elements of its listing, in their order; how many they are.
 fn assert_same_elements(store: &Store, subject: u32, steps: &[(u16, u32)]) -> usize {
     let (mut listing, mut xml) = (vec![0; LISTING_BYTES_MAX], vec![0; XML_BYTES_MAX]);
-    let view = store.view(label(subject), &path(steps), &mut listing).expect("a view");
-    let xml = store.view_xml(label(subject), &path(steps), &mut xml).expect("a view as XML");
-    let lines = view.lines().map(|line| line.map(listed)).collect::<Result<Vec<_>, _>>().expect("lines");
+    let view = store.view_into(label(subject), &path(steps), &mut listing).expect("a view");
+    let xml = store.view_xml_into(label(subject), &path(steps), &mut xml).expect("a view as XML");
+    let lines = view.lines().map(|line| line.map(|line| listed(&line))).collect::<Result<Vec<_>, _>>().expect("lines");
     assert_eq!(read_xml(xml, subject, steps.len().max(1)), lines, "{subject} {steps:?}");
     lines.len()
 }
 
 /// A store with every character in texts, versions of one name, and six steps of which the first four are removed.
-fn mixed() -> Store<'static> {
+fn mixed() -> Store {
     let mut store = worked();
     let characters = (32..=126).map(char::from).collect::<String>();
     for (at, name) in (0..characters.len()).step_by(16).zip(1..) {
@@ -500,7 +500,10 @@ fn mixed() -> Store<'static> {
         assert_eq!(store.insert(label(0), &path(&[(name, 0)]), Value::Text(text)), Ok(0));
     }
     for number in 0..32 {
-        assert_eq!(store.insert(label(number), &path(&[(7, number)]), Value::Measure(i32::MIN + number as i32)), Ok(0));
+        assert_eq!(
+            store.insert(label(number), &path(&[(7, number)]), Value::Measure(i32::MIN.wrapping_add_unsigned(number))),
+            Ok(0)
+        );
     }
     let deep = [(65535, 0), (65534, 0), (3, 8), (4, 8), (5, 24), (6, 31)];
     for depth in 1..=deep.len() {
@@ -525,7 +528,7 @@ fn xml_and_listing_have_the_same_elements() {
 }
 
 /// The store of the worked examples of grades: seven measures, the group 6:0, the removed 8:0 and the text 10:0.
-fn measured() -> Store<'static> {
+fn measured() -> Store {
     let mut store = Store::empty();
     for (subject, steps, value) in [
         (0, &[(1, 0)][..], Value::Measure(1000)),
@@ -632,7 +635,7 @@ fn sent_groups(top: u16, number: u32, names: impl Iterator<Item = u16>) -> Strin
 }
 
 /// A store with 10:0, a group.
-fn with_style() -> Store<'static> {
+fn with_style() -> Store {
     let mut store = Store::empty();
     assert_eq!(store.insert(label(0), &path(&[(10, 0)]), Value::Group), Ok(0));
     store
@@ -641,7 +644,7 @@ fn with_style() -> Store<'static> {
 /// What a subject sees of a path, as XML.
 fn xml(store: &Store, subject: u32, steps: &[(u16, u32)]) -> String {
     let mut output = vec![0; XML_BYTES_MAX];
-    store.view_xml(label(subject), &path(steps), &mut output).expect("a view as XML").to_string()
+    store.view_xml_into(label(subject), &path(steps), &mut output).expect("a view as XML").to_string()
 }
 
 #[test]
@@ -709,7 +712,7 @@ fn refusal_13_what_is_not_in_form() {
         "<e4@\"G\"></e4>\n",
         " <e4@\"G\"></e4>",
         r#"<e4@"G"/>"#,
-        r#"<e4@'G'></e4>"#,
+        r"<e4@'G'></e4>",
         r#"<e4@"G" ></e4>"#,
         r#"<e4@"G"></e4 >"#,
         r#"<e4  label="16" preserve="PRESENT" kind="G"></e4>"#,
@@ -790,10 +793,10 @@ fn the_highest_level_is_on_top() {
 
 /// The bytes of a partition with texts at these paths, in the order in which they are given.
 fn partition(paths: &[&[(u16, u8)]]) -> Vec<u8> {
-    let mut bytes = vec![paths.len() as u8, 0, 0, 0];
+    let mut bytes = vec![u8::try_from(paths.len()).expect("a slot each"), 0, 0, 0];
     for steps in paths {
         let mut slot = [0; 40];
-        slot[0] = steps.len() as u8;
+        slot[0] = u8::try_from(steps.len()).expect("six at most");
         for (at, (name, label)) in steps.iter().enumerate() {
             slot[1 + 2 * at..3 + 2 * at].copy_from_slice(&name.to_le_bytes());
             slot[13 + at] = *label;
@@ -811,7 +814,7 @@ fn part(store: &[u8], label: usize) -> &[u8] {
 }
 
 /// The store of the worked example of the migration, written before; partition 5 is broken.
-fn written_before() -> Store<'static> {
+fn written_before() -> Store {
     let mut store = Store::empty();
     let parts = [
         (0, partition(&[&[(10, 0)], &[(11, 0)]])),
@@ -828,7 +831,7 @@ fn written_before() -> Store<'static> {
 /// How many bytes a view of all has, or why it is refused.
 fn viewed(store: &Store, subject: u32) -> Result<usize, Error> {
     let mut output = vec![0; LISTING_BYTES_MAX];
-    store.view(label(subject), &Path::root(), &mut output).map(|view| view.listing().len())
+    store.view_into(label(subject), &Path::root(), &mut output).map(|view| view.listing().len())
 }
 
 #[test]
@@ -859,8 +862,8 @@ fn a_store_of_another_length_is_not_migrated() {
         assert!(bytes == before, "the store of {length} bytes");
         assert_eq!(Store::from(&mut bytes[..]).migrate(), refused(Refusal::StoreLength));
     }
-    assert_eq!(raw::migrate(&mut [0; STORE_BYTES]), MigrationAnswer { number: 0, mask: 0 });
-    assert_eq!(raw::migrate(&mut [0xff; STORE_BYTES]), MigrationAnswer { number: 0, mask: u32::MAX });
+    assert_eq!(raw::migrate(&mut vec![0; STORE_BYTES]), MigrationAnswer { number: 0, mask: 0 });
+    assert_eq!(raw::migrate(&mut vec![0xff; STORE_BYTES]), MigrationAnswer { number: 0, mask: u32::MAX });
 }
 
 /// A store file that was written before the path order changed, and what the reference in tools makes of it.
@@ -873,14 +876,14 @@ const MOVED: [u32; 4] = [9, 16, 24, 31];
 /// The labels of the lines of one step with this name, in the order in which a subject sees them.
 fn versions(store: &Store, subject: u32, name: u16) -> Vec<u32> {
     let mut output = vec![0; LISTING_BYTES_MAX];
-    let view = store.view(label(subject), &Path::root(), &mut output).expect("a view");
+    let view = store.view_into(label(subject), &Path::root(), &mut output).expect("a view");
     let lines = view.lines().map(|line| line.expect("a line"));
-    lines.filter(|line| (line.depth, line.name) == (1, name)).map(|line| line.label.number()).collect()
+    lines.filter(|line| (line.depth(), line.name) == (1, name)).map(|line| line.label.number()).collect()
 }
 
 #[test]
 fn a_store_file_of_before_is_migrated_and_served() {
-    let mut store = Store::from(Box::new(*BEFORE));
+    let mut store = Store::from(BEFORE.to_vec());
     for subject in 0..32 {
         let waits = MOVED.iter().any(|moved| label(subject).dominates(label(*moved)));
         assert_eq!(viewed(&store, subject).is_ok(), !waits, "{subject} before the migration");

@@ -52,7 +52,7 @@ fn open() -> Label {
 
 /// Inserts an element of one step.
 fn insert(file: &mut StoreFile, name: u16) {
-    file.store_mut().insert(open(), &Path::root().child(name, open()), Value::Group).expect("an insert");
+    file.insert(open(), &Path::root().child(name, open()), Value::Group).expect("an insert");
 }
 
 #[test]
@@ -76,11 +76,11 @@ fn what_is_saved_is_read() {
     for name in [1, 2] {
         insert(&mut file, name);
         assert!(file.save().expect("it is saved"));
-        assert_eq!(fs::read(&store).expect("the file"), file.store().as_bytes());
+        assert_eq!(fs::read(&store).expect("the file"), file.as_bytes());
         assert!(matches!(read(&store, Wait::No), Err(FileError::InUse)));
     }
     drop(file);
-    assert_ne!(read(&store, Wait::No).expect("it is read").as_bytes(), [0; STORE_BYTES]);
+    assert_ne!(read(&store, Wait::No).expect("it is read").as_bytes(), vec![0; STORE_BYTES]);
     assert_eq!(fs::metadata(&store).expect("the file").permissions().mode() & 0o777, 0o640);
     assert_eq!(folder.names(), ["store"]);
 }
@@ -121,9 +121,8 @@ fn who_waits_goes_on_with_what_was_saved() {
     file.save().expect("it is saved");
     drop(file);
     assert!(waiting.into_iter().all(|one| one.join().expect("it ends")));
-    let mut output = [0; 1024];
     let last = read(&store, Wait::No).expect("it is read");
-    let view = last.view(open(), &Path::root(), &mut output).expect("a view");
+    let view = last.view(open(), &Path::root()).expect("a view");
     let names: Vec<u16> = view.lines().map(|line| line.expect("a line").name).collect();
     assert_eq!(names, (1..10).collect::<Vec<_>>());
     assert_eq!(folder.names(), ["store"]);
@@ -132,9 +131,9 @@ fn who_waits_goes_on_with_what_was_saved() {
 #[test]
 fn what_another_saved_meanwhile_stays() {
     let changes: [fn(&PathBuf); 3] = [
-        |store| fs::write(store, [7; STORE_BYTES]).expect("it is written in place"),
+        |store| fs::write(store, vec![7; STORE_BYTES]).expect("it is written in place"),
         |store| {
-            fs::write(store.with_extension("new"), [0; STORE_BYTES]).expect("a new file");
+            fs::write(store.with_extension("new"), vec![0; STORE_BYTES]).expect("a new file");
             fs::rename(store.with_extension("new"), store).expect("it gets the name");
         },
         |store| fs::remove_file(store).expect("it is taken away"),

@@ -1,12 +1,10 @@
 """The calls through the module: document 01's example, every refusal, what is left untouched, what an update keeps, XML read
 back, grades, styles taken in as XML, missing groups, the order of versions, and the migration of stores written before.
-
-    python3 hosts/python/test_dossier.py
+hosts/python/run runs it.
 """
 import copy
 import doctest
 import multiprocessing
-import pathlib
 import pickle
 import subprocess
 import sys
@@ -18,26 +16,10 @@ from fractions import Fraction
 import dossier
 from dossier import raw
 from dossier import Answer, Compartment, Grade, GradeAnswer, Group, Kind, Label, Level, Line, Mask, Measure, MigrationAnswer
-from dossier import Refusal, Refused, Step, Store, Text, UnexpectedAnswer, Unreadable, View
-from dossier.listing import read_xml
-
-# What every output holds before a call.
-FILL = 0xA5
-
-# 10:0, 20:16 and 30:0 below it, and 10:16, as bytes.
-P10 = bytes([10, 0, 0])
-P10_20 = bytes([10, 0, 0, 20, 0, 16])
-P10_30 = bytes([10, 0, 0, 30, 0, 0])
-P10_16 = bytes([10, 0, 16])
-
-# The last listing of document 01's example.
-LISTING = b"VIEW\t16\t2\n1\t10\t0\tR\t-\t-\n2\t20\t16\tP\tM\t-150\n"
-
-# What a call that brings a value is given beside the path: a group.
-GROUP = (0, b"")
-
-# A text in form for label 0: a group.
-SENT = b'<e4 label="0" preserve="PRESENT" kind="G"></e4>'
+from dossier import NotAStore, Path, Refusal, Refused, Step, Store, StoreChanged, StoreFileError, StoreInUse, StoreNotSynced
+from dossier import Text, UnexpectedAnswer, Unreadable, View
+from dossier.listing import read_ascii
+from support import GROUP, LISTING, P10, P10_16, P10_20, P10_30, ROOT, SENT, example, label, output, path, sent, sent_group
 
 # Texts that are not in form; @ stands for what is between a name and a kind: label 16 and PRESENT.
 NOT_IN_FORM = [
@@ -97,34 +79,14 @@ NOT_OWN = [
 ]
 
 # A store file that was written before the path order changed, and what the reference in tools makes of it.
-TESTS = pathlib.Path(__file__).resolve().parents[2] / "tests"
-BEFORE = (TESTS / "before-order.store").read_bytes()
-AFTER = (TESTS / "after-order.store").read_bytes()
+BEFORE = (ROOT / "tests" / "before-order.store").read_bytes()
+AFTER = (ROOT / "tests" / "after-order.store").read_bytes()
 
 # The partitions of that file that hold versions of one name at two levels.
 MOVED = [9, 16, 24, 31]
 
 # What is no whole number, though some of it equals one or could be cut to one.
 NOT_WHOLE = [7.5, 1.0, float("nan"), Decimal(1), Fraction(1), 1j, "1", b"1", None]
-
-
-def label(number):
-    """The label of a number."""
-    return Label.from_number(number)
-
-
-def path(*steps):
-    """The path of names and label numbers."""
-    return [Step(name, label(number)) for name, number in steps]
-
-
-def example(buffer=None):
-    """A store after the three calls of the example that change it."""
-    store = Store(buffer)
-    store.insert(label(0), path((10, 0)), Group())
-    store.insert(label(16), path((10, 0), (20, 16)), Measure(-150))
-    store.delete(label(0), path((10, 0)))
-    return store
 
 
 def worked():
@@ -207,27 +169,11 @@ def mixed():
     return store
 
 
-def sent(short):
-    """A text in which @ stands for what is between a name and a kind: label 16 and PRESENT."""
-    return short.replace("@", ' label="16" preserve="PRESENT" kind=')
-
-
-def sent_group(name, number, *inside):
-    """A group of a label with groups of these names inside it."""
-    groups = "".join(sent_group(other, number) for other in inside)
-    return f'<e{name} label="{number}" preserve="PRESENT" kind="G">{groups}</e{name}>'
-
-
 def with_style():
     """A store with 10:0, a group."""
     store = Store()
     store.insert(label(0), path((10, 0)), Group())
     return store
-
-
-def output(length=64):
-    """An output full of FILL."""
-    return bytearray([FILL]) * length
 
 
 def delete_absent(name):
@@ -238,6 +184,12 @@ def delete_absent(name):
 def unexpected(number):
     """An answer that no call gives, for another process."""
     return Answer(number, 1).outcome()
+
+
+def copies(value):
+    """What comes of a value, pickled by each protocol from 2 on, or copied."""
+    pickled = [pickle.loads(pickle.dumps(value, protocol)) for protocol in range(2, pickle.HIGHEST_PROTOCOL + 1)]
+    return pickled + [copy.copy(value), copy.deepcopy(value)]
 
 
 class Index:
@@ -305,9 +257,11 @@ class Done(CallTest):
     def test_example_fits_40_bytes(self):
         view = example().view(label(16), output=output(40))
         self.assertEqual(view.listing, LISTING)
-        removed = Line(1, 10, label(0), False, None, None)
-        live = Line(2, 20, label(16), True, Kind.MEASURE, Measure(-150))
+        removed = Line(Path(path((10, 0))), None)
+        live = Line(Path(path((10, 0), (20, 16))), Measure(-150))
         self.assertEqual(list(view), [removed, live])
+        fields = [(line.depth, line.name, line.label, line.live, line.kind) for line in view]
+        self.assertEqual(fields, [(1, 10, label(0), False, None), (2, 20, label(16), True, Kind.MEASURE)])
 
     def test_example_in_39_bytes_is_refused_by_10(self):
         space = output(39)
@@ -433,22 +387,21 @@ class Xml(CallTest):
         self.assertIn((preserve, kind), [("PRESENT", "G"), ("REMOVED", "-")])
         return Group() if kind == "G" else None
 
-    def elements(self, inside, depth):
-        """The elements inside one that was parsed, in their order, as lines; no text stands behind an element."""
+    def elements(self, inside, above):
+        """The elements inside one that was parsed, below a path, in their order, as lines; no text stands behind an element."""
         for element in inside:
             self.assertEqual((list(element.attrib), element.tail), (["label", "preserve", "kind"], None))
             number, preserve, kind = element.attrib.values()
-            value = self.value(preserve, kind, element.text)
-            live = value is not None
-            yield Line(depth, int(element.tag[1:]), label(int(number)), live, value.kind if live else None, value)
-            yield from self.elements(element, depth + 1)
+            at = above.child(int(element.tag[1:]), label(int(number)))
+            yield Line(at, self.value(preserve, kind, element.text))
+            yield from self.elements(element, at)
 
     def assert_read_back(self, store, subject, *steps):
         """A view's XML, parsed, has the elements of its listing."""
         parsed = xml.etree.ElementTree.fromstring(store.view_xml(label(subject), path(*steps)))
         self.assertEqual((parsed.tag, parsed.attrib, parsed.text), ("dossier", {"subject": str(subject)}, None))
         lines = list(store.view(label(subject), path(*steps)))
-        self.assertEqual(list(self.elements(parsed, max(len(steps), 1))), lines)
+        self.assertEqual(list(self.elements(parsed, Path(path(*steps[:-1])))), lines)
         return len(lines)
 
     def test_read_back(self):
@@ -603,7 +556,7 @@ class Intake(CallTest):
             self.assertEqual(other.view_xml(label(0), path((name, 0))), viewed)
 
     def test_example(self):
-        examples = pathlib.Path(__file__).resolve().parents[2] / "examples"
+        examples = ROOT / "examples"
         command = [sys.executable, "-B", examples / "style.py", examples / "style.xml"]
         done = subprocess.run(command, capture_output=True, check=True)
         self.assertEqual(done.stdout, (examples / "style.out").read_bytes())
@@ -858,17 +811,23 @@ class Wrapper(CallTest):
         self.assertEqual(MigrationAnswer(0, 544).outcome(), Mask(544))
         self.assert_raises_refusal(Refusal.STORE_LENGTH, MigrationAnswer(1, 0).outcome)
         unexpected = [Answer(15, 0), Answer(7, 1), GradeAnswer(15, 0, 0), GradeAnswer(7, -1, 0), GradeAnswer(12, 0, 1)]
-        for answer in unexpected + [MigrationAnswer(1, 1), MigrationAnswer(2, 0), MigrationAnswer(3, 0), MigrationAnswer(15, 0)]:
+        unexpected += [MigrationAnswer(1, 1), MigrationAnswer(2, 0), MigrationAnswer(3, 0), MigrationAnswer(15, 0)]
+        for answer in unexpected:
             with self.assertRaises(UnexpectedAnswer) as raised:
                 answer.outcome()
             self.assertEqual(raised.exception.answer, answer)
 
     def test_what_is_no_line(self):
         lines = ["", "1\t10\t0\tP\tG", "1\t10\t32\tP\tG\t-", "1\tx\t0\tP\tG\t-", "1\t10\t0\tR\tG\t-", "1\t10\t0\tP\tM\tx"]
-        for line in lines + ["1\t10\t0\tP\tG\t-\t7", "1\t10\t0\tQ\tG\t-"]:
+        lines += ["1\t10\t0\tP\tG\t-\t7", "1\t10\t0\tQ\tG\t-", "0\t10\t0\tP\tG\t-", "2\t10\t0\tP\tG\t-", "1\t10\t0\tP\tT\tä"]
+        for line in lines:
             self.assertRaises(Unreadable, list, View(f"VIEW\t0\t1\n{line}\n".encode()))
+        for first in "VIEW\t0\t2", "VIEW\t32\t1", "VIEW\t0", "view\t0\t1", "VIEW\tx\t1", "":
+            self.assertRaises(Unreadable, len, View(f"{first}\n1\t10\t0\tP\tG\t-\n".encode()))
+        self.assertEqual(len(View(b"VIEW\t0\t1\n1\t10\t0\tP\tG\t-\n")), 1)
+        self.assertRaises(Unreadable, list, View(b""))
         self.assertRaises(Unreadable, list, View(b"VIEW\t0\t1\n1\t10\t0\tP\tG\t-"))
-        self.assertRaises(Unreadable, read_xml, b"<dossier \xff")
+        self.assertRaises(Unreadable, read_ascii, b"<dossier \xff")
 
 
 class WholeNumbers(CallTest):
@@ -916,7 +875,7 @@ class WholeNumbers(CallTest):
 
     def test_lengths(self):
         for number in 7.5, 1.0, 64:
-            self.assertRaises(TypeError, Store(number).view, label(0))
+            self.assertRaises(TypeError, Store, number)
             self.assertRaises(TypeError, Store().view, label(0), (), number)
             self.assertRaises(TypeError, Store().view_xml, label(0), (), number)
 
@@ -937,7 +896,7 @@ class Carried(CallTest):
 
     def assert_carried(self, error):
         """An error is the same one, pickled or copied: its type, answer and text."""
-        for carried in pickle.loads(pickle.dumps(error)), copy.copy(error), copy.deepcopy(error):
+        for carried in copies(error):
             self.assertIs(type(carried), type(error))
             self.assertEqual(vars(carried), vars(error))
             self.assertEqual(str(carried), str(error))
@@ -950,11 +909,15 @@ class Carried(CallTest):
         self.assert_carried(UnexpectedAnswer(GradeAnswer(7, -1, 2)))
         self.assert_carried(UnexpectedAnswer(MigrationAnswer(3, 4)))
         self.assert_carried(Unreadable(b"1\t10"))
+        for kind in StoreFileError, StoreInUse, StoreChanged, NotAStore, StoreNotSynced:
+            self.assert_carried(kind("shirts", "is in use"))
 
     def test_what_an_error_says(self):
-        self.assertEqual(str(Refused(Answer(7, 0))), "refused by 7: ABSENT")
-        self.assertEqual(str(Refused(GradeAnswer(12, 0, 0))), "refused by 12: NO_MEASURE")
-        self.assertEqual(str(Refused(Answer(14, 0))), "refused by 14: NOT_OWN")
+        rows = [row.split("\t") for row in (ROOT / "tests" / "refusals.tsv").read_text().splitlines()]
+        self.assertEqual([(str(int(one)), one.name, one.cause) for one in Refusal], [tuple(row) for row in rows])
+        for number, _, cause in rows:
+            self.assertEqual(str(Refused(Answer(int(number), 0))), f"refused by {number}: {cause}")
+            self.assertEqual(str(Refused(GradeAnswer(int(number), 0, 0))), f"refused by {number}: {cause}")
         self.assertEqual(str(UnexpectedAnswer(Answer(11, 2))), "unexpected answer: number 11, count 2")
         unexpected = UnexpectedAnswer(GradeAnswer(7, -1, 2))
         self.assertEqual(str(unexpected), "unexpected answer: number 7, step -1, remainder 2")
@@ -963,10 +926,22 @@ class Carried(CallTest):
     def test_values(self):
         lines = list(example().view(label(16)))
         answers = [Answer(7, 0), GradeAnswer(7, 0, 0), Grade(-4, 2), MigrationAnswer(0, 544), Mask(544)]
-        for value in answers + [label(19), Step(10, label(16)), Group(), Measure(-150), Text("SLEEVE"), lines]:
-            self.assertEqual(pickle.loads(pickle.dumps(value)), value)
-        self.assertEqual(pickle.loads(pickle.dumps(example())).buffer, example().buffer)
-        self.assertEqual(pickle.loads(pickle.dumps(example().view(label(16)))).listing, LISTING)
+        parts = [label(19), Step(10, label(16)), Path(path((10, 0), (20, 16))), Group(), Measure(-150), Text("SLEEVE"), lines]
+        for value in answers + parts + [*Level, *Refusal, example().view(label(16), path((10, 0)))]:
+            for carried in copies(value):
+                self.assertEqual(carried, value)
+                self.assertIs(type(carried), type(value))
+        for store in copies(example()):
+            self.assertEqual(bytes(store), bytes(example()))
+
+    def test_copy_of_a_store_is_its_own(self):
+        buffer = bytearray(dossier.STORE_BYTES)
+        store = Store(memoryview(buffer))
+        for one in copies(store):
+            one.insert(label(0), path((10, 0)), Group())
+            self.assertEqual(len(one.view(label(0))), 1)
+        self.assertEqual(buffer, bytes(dossier.STORE_BYTES))
+        self.assertEqual(len(store.view(label(0))), 0)
 
     def test_errors_of_another_process(self):
         for error, call, argument in (Refused, delete_absent, 10), (UnexpectedAnswer, unexpected, 7):
