@@ -2,9 +2,10 @@
  *
  * Link with the archive libdossier_c.a. `tools/install PREFIX` installs it, this file and dossier.pc, by which pkg-config finds
  * both: cc program.c $(pkg-config --cflags --libs dossier). In the project's folder, without an installation, `tools/build
- * --archive dossier_c` builds target/staticlib/libdossier_c.a. The archive needs memmove and memset of the C library and nothing
- * else. It keeps nothing between calls, allocates nothing and starts no thread. The helpers at the end of this file, which put
- * steps and measures into bytes and read them back, are compiled with the program that uses them.
+ * --archive dossier_c` builds target/staticlib/libdossier_c.a. The archive needs memcpy, memmove and memset of the C library and
+ * nothing else. It keeps nothing between calls, allocates nothing and starts no thread. The helpers at the end of this file, which
+ * put steps and measures into bytes and read them back, are compiled with the program that uses them. This file needs C99 or
+ * C++11.
  *
  * THE STORE is 41,088 bytes that the caller owns and lends for one call at a time: 32 partitions of 1,284 bytes, one for each
  * label. An empty store is all zero; no call is needed to make one, and a store may be kept or moved by copying its bytes. Of
@@ -35,7 +36,7 @@
  * WHAT A HOST MUST NOT DO. The promises are proved of the library and hold for a caller that keeps to this:
  *
  *   - A pointer reaches as many bytes as its length says. It is not NULL, not even where the length is 0: lend the address of
- *     any byte then; nothing is read or written there.
+ *     any byte then, as dossier_no_bytes(); nothing is read or written there.
  *   - A buffer that is written (the store of an insert, an update, a delete, an XML intake or a migration; the output of a view)
  *     does not overlap another buffer of the same call. Buffers that are only read may overlap: a grade may be given one path
  *     twice.
@@ -44,7 +45,7 @@
  *     lock of its own.
  *   - The functions are declared as below, with nothing narrower.
  *
- * A compiler that defines __GNUC__, as gcc and clang do, warns where NULL is passed and where an answer is dropped.
+ * gcc and clang warn where an answer is dropped, and where NULL is passed (gcc with -Wall).
  *
  * An XML intake takes less than 6 KB of stack on x86-64, a view less than 7 KB, a view as XML less than 8 KB and the other calls,
  * a grade and the migration too, less than 1 KB, as measured on a full store. No call blocks.
@@ -329,10 +330,18 @@ static inline const char *dossier_refusal_text(uint32_t number)
     }
 }
 
+/* The address to lend where there are no bytes: the root's path, a group's value. */
+DOSSIER_WARN_UNUSED
+static inline const uint8_t *dossier_no_bytes(void)
+{
+    static const uint8_t none[1] = {0};
+    return none;
+}
+
 /* Puts a step of a path, three bytes, and returns 3: length += dossier_put_step(path + length, 10, 0) puts one more. Pass the
  * numbers as they are: a name over 65535 is put as 0 and a label over 255 as 255, which no valid path has, so that a call refuses
  * it by 4. */
-DOSSIER_NONNULL DOSSIER_WARN_UNUSED
+DOSSIER_NONNULL
 static inline size_t dossier_put_step(uint8_t *bytes, uint32_t name, uint32_t label)
 {
     uint32_t fitting = name <= 65535 ? name : 0;

@@ -2,15 +2,15 @@
 #include <dossier.h>
 #include <inttypes.h>
 #include <stdio.h>
-/* The store, empty at first; room for any listing; no bytes: the root's path, and a group's value. */
-static uint8_t store[DOSSIER_STORE_BYTES], output[DOSSIER_LISTING_BYTES_MAX], none[1];
+/* The store, empty at first, and room for any listing. */
+static uint8_t store[DOSSIER_STORE_BYTES], output[DOSSIER_LISTING_BYTES_MAX];
 /* Says in words why a call was refused, if it was. */
 static void tell(uint32_t number) {
     if (number != DOSSIER_DONE) printf("refused by %" PRIu32 ": %s\n", number, dossier_refusal_text(number));
 }
 /* Prints what a subject sees. */
 static void print_view(uint32_t subject) {
-    struct dossier_answer answer = dossier_view(store, sizeof store, subject, none, 0, output, sizeof output);
+    struct dossier_answer answer = dossier_view(store, sizeof store, subject, dossier_no_bytes(), 0, output, sizeof output);
     tell(answer.number);
     fwrite(output, 1, answer.count, stdout);
 }
@@ -27,7 +27,7 @@ static void insert_measure(uint32_t subject, uint32_t name, int64_t hundredths) 
 int main(void) {
     uint8_t base[DOSSIER_PATH_BYTES_MAX], top[DOSSIER_PATH_BYTES_MAX];
     size_t base_length = put_path(base, 20, 16), top_length = put_path(top, 21, 16), style = DOSSIER_STEP_BYTES;
-    tell(dossier_insert(store, sizeof store, 0, base, style, DOSSIER_KIND_GROUP, none, 0).number);
+    tell(dossier_insert(store, sizeof store, 0, base, style, DOSSIER_KIND_GROUP, dossier_no_bytes(), 0).number);
     insert_measure(16, 20, -150);
     tell(dossier_delete(store, sizeof store, 0, base, style).number);
     print_view(0), print_view(16);

@@ -9,6 +9,7 @@ import hashlib
 import os
 import re
 import shlex
+import stat
 import subprocess
 import sys
 import sysconfig
@@ -27,6 +28,9 @@ PLATFORM = "linux-x86_64"
 
 # The time of each file in a wheel, so that the same sources give the same wheel.
 TIME = (1980, 1, 1, 0, 0, 0)
+
+# The type and mode of each; a shared object needs no other.
+MODE = stat.S_IFREG | 0o644
 
 # What pip passes on from its command line.
 Settings = Optional[Mapping[str, object]]
@@ -47,7 +51,7 @@ def build_wheel(wheel_directory: str, config_settings: Settings = None, metadata
     with zipfile.ZipFile(Path(wheel_directory) / name, "w") as wheel:
         for file, contents in files.items():
             about = zipfile.ZipInfo(file, TIME)
-            about.external_attr = (0o755 if file.endswith(".so") else 0o644) << 16
+            about.external_attr = MODE << 16
             about.compress_type = zipfile.ZIP_DEFLATED
             wheel.writestr(about, contents)
     return name
@@ -56,6 +60,13 @@ def build_wheel(wheel_directory: str, config_settings: Settings = None, metadata
 def build_sdist(sdist_directory: str, config_settings: Settings = None) -> NoReturn:
     """There is none."""
     sys.exit("dossier has no source distribution, since the archive of the calls is built in the project: install hosts/python")
+
+
+def build_editable(
+    wheel_directory: str, config_settings: Settings = None, metadata_directory: Optional[str] = None
+) -> NoReturn:
+    """There is none."""
+    sys.exit("dossier is not installed in editable mode, since its library would be missing: install hosts/python without -e")
 
 
 def _fields() -> Dict[str, str]:

@@ -1,5 +1,5 @@
 //! Tells the linker where the archive of the calls is: target/staticlib at the project's root, or the folder that the
-//! environment variable `DOSSIER_C_DIR` names.
+//! environment variable `DOSSIER_C_DIR` names, from the project's root on if it is relative.
 
 use std::env;
 use std::path::{Path, PathBuf};
@@ -10,10 +10,8 @@ const VARIABLE: &str = "DOSSIER_C_DIR";
 
 /// The folder that holds the archive.
 fn archive_folder() -> PathBuf {
-    match env::var_os(VARIABLE) {
-        Some(folder) => PathBuf::from(folder),
-        None => Path::new(env!("CARGO_MANIFEST_DIR")).join("../../target/staticlib"),
-    }
+    let root = Path::new(env!("CARGO_MANIFEST_DIR")).join("../..");
+    root.join(env::var_os(VARIABLE).unwrap_or_else(|| "target/staticlib".into()))
 }
 
 fn main() -> ExitCode {

@@ -2,6 +2,7 @@
 
 use std::collections::HashMap;
 use std::ffi::{OsStr, OsString};
+use std::fmt::Display;
 use std::os::unix::ffi::OsStrExt;
 use std::str::FromStr;
 
@@ -120,21 +121,16 @@ impl Words {
 
     /// The label that an option names.
     pub fn label(&self, option: &str) -> Result<Label, Failure> {
-        self.parsed(self.option(option).unwrap_or_default(), "label")
+        self.parsed(self.option(option).unwrap_or_default())
     }
 
-    /// The path in a word, or the root. A path may begin with `/`, as in a table of values.
+    /// The path in a word, or the root.
     pub fn path(&self, at: usize) -> Result<Path, Failure> {
-        let word = self.word(at).unwrap_or(OsStr::new("/"));
-        match word.as_bytes().strip_prefix(b"/") {
-            Some(rest) if !rest.is_empty() => self.parsed(OsStr::from_bytes(rest), "path"),
-            _ => self.parsed(word, "path"),
-        }
+        self.parsed(self.word(at).unwrap_or(OsStr::new("/")))
     }
 
     /// What a word says.
-    fn parsed<T: FromStr<Err: std::fmt::Display>>(&self, word: &OsStr, what: &str) -> Result<T, Failure> {
-        let text = word.to_string_lossy();
-        text.parse().map_err(|error| self.slip(&format!("'{text}' is no {what}: {error}")))
+    fn parsed<T: FromStr<Err: Display>>(&self, word: &OsStr) -> Result<T, Failure> {
+        word.to_string_lossy().parse().map_err(|error: T::Err| self.slip(&error.to_string()))
     }
 }

@@ -3,8 +3,7 @@
 use std::ffi::OsStr;
 use std::io;
 
-use dossier::file::FileError;
-use dossier::{Error, Label, Path, Refusal};
+use dossier::{Error, FileCause, FileError, Label, Path, Refusal};
 
 use crate::refusals;
 
@@ -35,13 +34,13 @@ impl Failure {
     }
 
     /// A store's file that could not be opened, locked or saved.
-    pub fn store(file: &OsStr, error: &FileError) -> Failure {
-        let advice = match error {
-            FileError::Open(error) if error.kind() == io::ErrorKind::NotFound => "; dossier new makes an empty store",
-            FileError::Exists => "; it is not overwritten",
+    pub fn store(error: &FileError) -> Failure {
+        let advice = match error.cause() {
+            FileCause::Open(error) if error.kind() == io::ErrorKind::NotFound => "; dossier new makes an empty store",
+            FileCause::Exists => "; it is not overwritten",
             _ => "",
         };
-        Failure::File(format!("{}: {error}{advice}\n", file.display()))
+        Failure::File(format!("{error}{advice}\n"))
     }
 
     /// Another file that could not be read or written.

@@ -3,43 +3,42 @@
 use std::ffi::OsStr;
 use std::fs::{self, File};
 use std::io::{self, ErrorKind, IsTerminal, Read, Write};
-use std::path::Path;
 
-use dossier::Store;
-use dossier::file::{self, FileError, StoreFile, Wait};
+use dossier::file::{self, StoreFile, Wait};
+use dossier::{FileCause, FileError, Store};
 
 use crate::arguments::Words;
 use crate::failure::{Done, Failure, eprint_all};
 
 /// Reads the store of the command's file, to be shown.
 pub fn read_store(words: &Words) -> Result<Store, Failure> {
-    waiting(words, file::read)
+    waiting(words, |file, wait| file::read(file, wait))
 }
 
 /// Opens the store of the command's file, to be changed and saved. It is locked until it is dropped.
 pub fn open_store(words: &Words) -> Result<StoreFile, Failure> {
-    waiting(words, StoreFile::open)
+    waiting(words, |file, wait| StoreFile::open(file, wait))
 }
 
 /// Opens the command's file. Where it is in use and a person looks on, it is said that it is waited for.
-fn waiting<T>(words: &Words, open: impl Fn(&Path, Wait) -> Result<T, FileError>) -> Result<T, Failure> {
+fn waiting<T>(words: &Words, open: impl Fn(&OsStr, Wait) -> Result<T, FileError>) -> Result<T, Failure> {
     let name = words.file();
-    let file = Path::new(name);
-    let opened = match open(file, Wait::No) {
-        Err(FileError::InUse) if words.wait() == Wait::Yes => {
+    let is_in_use = |error: &FileError| matches!(error.cause(), FileCause::InUse);
+    let opened = match open(name, Wait::No) {
+        Err(error) if is_in_use(&error) && words.wait() == Wait::Yes => {
             if io::stderr().is_terminal() {
                 eprint_all(&format!("{} is in use; waiting\n", name.display()));
             }
-            open(file, Wait::Yes)
+            open(name, Wait::Yes)
         }
         opened => opened,
     };
-    opened.map_err(|error| Failure::store(name, &error))
+    opened.map_err(|error| Failure::store(&error))
 }
 
 /// Saves a store that was opened. That a new store's folder could not be synced is told, and it is saved.
-pub fn save(words: &Words, opened: &mut StoreFile) -> Result<(), Failure> {
-    opened.save().map(|_| ()).map_err(|error| Failure::store(words.file(), &error))
+pub fn save(opened: &mut StoreFile) -> Result<(), Failure> {
+    opened.save().map(|_| ()).map_err(|error| Failure::store(&error))
 }
 
 /// The bytes of a file, or of standard input where the word is a dash.

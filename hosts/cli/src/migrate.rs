@@ -20,7 +20,7 @@ pub fn migrate(words: &Words) -> Result<Done, Failure> {
         let kept = state(&opened, label).map_err(|error| Failure::call(error, refusals::of_any))?;
         if matches!(kept, State::WellFormed(_)) { served.push(label) } else { broken.push(label) }
     }
-    files::save(words, &mut opened)?;
+    files::save(&mut opened)?;
     files::print_saved(told(mask.bits(), &moved, &served, &broken).as_bytes())?;
     Ok(if broken.is_empty() { Done::Well } else { Done::Found })
 }

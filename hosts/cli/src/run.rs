@@ -27,7 +27,7 @@ pub fn run(words: &Words) -> Result<Done, Failure> {
     let mut runner = Runner::new(&mut opened, words.has("--explain"), progress);
     let read = runner.carry_out_all(&mut source);
     let (faults, written) = (runner.faults, runner.output.finish());
-    files::save(words, &mut opened)?;
+    files::save(&mut opened)?;
     read.map_err(|error| {
         Failure::File(format!("{}: {error}; what was carried out is saved\n", source.name().display()))
     })?;

@@ -18,7 +18,7 @@ pub fn take(words: &Words) -> Result<Done, Failure> {
     let count = answer
         .outcome()
         .map_err(|error| Failure::call(error, |refusal| refusals::of_take(refusal, subject, &parent)))?;
-    files::save(words, &mut opened)?;
+    files::save(&mut opened)?;
     files::print_saved(format!("{} taken in below {parent}\n", counted(count as usize, "element")).as_bytes())
 }
 

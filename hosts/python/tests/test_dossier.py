@@ -4,6 +4,7 @@ hosts/python/run runs it.
 """
 import copy
 import doctest
+import errno
 import multiprocessing
 import pickle
 import subprocess
@@ -899,7 +900,7 @@ class Carried(CallTest):
         for carried in copies(error):
             self.assertIs(type(carried), type(error))
             self.assertEqual(vars(carried), vars(error))
-            self.assertEqual(str(carried), str(error))
+            self.assertEqual((str(carried), repr(carried)), (str(error), repr(error)))
 
     def test_errors(self):
         for refusal in Refusal:
@@ -910,18 +911,26 @@ class Carried(CallTest):
         self.assert_carried(UnexpectedAnswer(MigrationAnswer(3, 4)))
         self.assert_carried(Unreadable(b"1\t10"))
         for kind in StoreFileError, StoreInUse, StoreChanged, NotAStore, StoreNotSynced:
-            self.assert_carried(kind("shirts", "is in use"))
+            error = kind("shirts", "is in use")
+            self.assertEqual(repr(error), f"{kind.__name__}('shirts', 'is in use')")
+            self.assertEqual((error.filename, error.strerror), ("shirts", "is in use"))
+            self.assert_carried(error)
+        self.assertEqual((StoreInUse("shirts", "is in use").errno, StoreChanged("shirts", "").errno), (errno.EAGAIN, None))
 
     def test_what_an_error_says(self):
         rows = [row.split("\t") for row in (ROOT / "tests" / "refusals.tsv").read_text().splitlines()]
-        self.assertEqual([(str(int(one)), one.name, one.cause) for one in Refusal], [tuple(row) for row in rows])
+        self.assertEqual([(str(one.number), one.name, one.cause) for one in Refusal], [tuple(row) for row in rows])
         for number, _, cause in rows:
+            words = f"refused by {number}: {cause}"
+            self.assertEqual((str(Refusal(int(number))), f"{Refusal(int(number)):>99}"), (words, words.rjust(99)))
             self.assertEqual(str(Refused(Answer(int(number), 0))), f"refused by {number}: {cause}")
             self.assertEqual(str(Refused(GradeAnswer(int(number), 0, 0))), f"refused by {number}: {cause}")
         self.assertEqual(str(UnexpectedAnswer(Answer(11, 2))), "unexpected answer: number 11, count 2")
         unexpected = UnexpectedAnswer(GradeAnswer(7, -1, 2))
         self.assertEqual(str(unexpected), "unexpected answer: number 7, step -1, remainder 2")
         self.assertEqual(str(UnexpectedAnswer(MigrationAnswer(1, 5))), "unexpected answer: number 1, mask 5")
+        self.assertEqual(str(Unreadable(b"1\t10")), r"unreadable listing or XML: b'1\t10'")
+        self.assertEqual(str(Unreadable(b"=" * 61)), f"unreadable listing or XML: b'{60 * '='}' ...")
 
     def test_values(self):
         lines = list(example().view(label(16)))

@@ -159,6 +159,29 @@ class Created(FileTest):
             os.chdir(before)
         self.assertEqual(self.names(), ["bytes", "plain", "store"])
 
+    def test_save_as(self):
+        own = Store()
+        insert(own, 1)
+        lent = Store(memoryview(bytearray(bytes(own))).toreadonly())
+        with Store.open(self.file) as opened:
+            insert(opened, 2)
+            for name, store in ("own", own), ("lent", lent), ("opened", opened):
+                store.save_as(self.folder / name)
+                about = self.folder / name
+                self.assertEqual((about.read_bytes(), stat.S_IMODE(about.stat().st_mode)), (bytes(store), 0o600))
+            self.assertEqual(self.file.read_bytes(), bytes(STORE_BYTES))
+            for name in "own", "store":
+                with self.assertRaisesRegex(FileExistsError, f"there is a file of this name already: '{self.folder / name}'"):
+                    opened.save_as(self.folder / name)
+        self.assertEqual((names_in(Store.read(self.folder / "own")), names_in(Store.read(self.file))), ([1], [2]))
+        self.assertEqual(self.names(), ["lent", "opened", "own", "store"])
+
+    def test_store_of_another_length(self):
+        for length in 0, STORE_BYTES + 1:
+            with self.assertRaisesRegex(ValueError, f"^not saved: the store has {length} bytes and not 41088$"):
+                Store(bytearray(length)).save_as(self.folder / "other")
+        self.assertEqual(self.names(), ["store"])
+
 
 class Saved(FileTest):
     """Stores that are saved."""
@@ -265,6 +288,7 @@ class Closed(FileTest):
         self.assertEqual((store.closed, repr(store)), (True, f"<StoreFile '{self.file}', closed>"))
         calls = [
             store.save, store.migrate, store.__enter__, lambda: store.view(label(0)), lambda: store.view_xml(label(0)),
+            lambda: store.save_as(self.folder / "other"),
             lambda: store.insert(label(0), ten, Group()), lambda: store.update(label(0), ten, Group()), lambda: bytes(store),
             lambda: store.delete(label(0), ten), lambda: store.grade(label(0), ten, ten, 1), lambda: store.buffer,
             lambda: store.insert_xml(label(0), ten, ""),
@@ -441,6 +465,14 @@ class NoStore(FileTest):
             self.assertEqual(raised.exception.errno, errno.ELOOP)
             self.file.chmod(0)
             self.assertRaises(PermissionError, forked, lambda: call(self.file) and None, NOBODY)
+
+    def test_name_of_a_forbidden_file(self):
+        (self.folder / "link").symlink_to("store")
+        self.file.chmod(0)
+        for call in Store.open, Store.read:
+            with self.assertRaises(PermissionError) as raised:
+                forked(lambda: call(self.folder / "link") and None, NOBODY)
+            self.assertEqual(raised.exception.filename, str(self.folder / "link"))
 
 
 class Failed(FileTest):

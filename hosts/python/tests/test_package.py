@@ -65,9 +65,9 @@ class PackageTest(unittest.TestCase):
         self.addCleanup(folder.cleanup)
         self.folder = pathlib.Path(folder.name)
 
-    def installed(self, python=sys.executable, target="site", **environment):
+    def installed(self, *options, **environment):
         """Installs the package by pip into a folder, from another one and without a network: what pip wrote, and its status."""
-        words = [python, "-m", "pip", "install", "--no-index", "--target", self.folder / target, SOURCE]
+        words = [sys.executable, "-m", "pip", "install", "--no-index", "--target", self.folder / "site", *options, SOURCE]
         return run(*words, folder=self.folder, **environment)
 
     def imported(self, site):
@@ -97,6 +97,10 @@ class Wheel(PackageTest):
             expected = base64.urlsafe_b64encode(hashlib.sha256(files[name]).digest()).decode().rstrip("=")
             self.assertEqual((digest, length), (f"sha256={expected}", str(len(files[name]))))
         self.assertEqual(lines[-1], "dossier-1.0.0.dist-info/RECORD,,")
+
+    def test_modes(self):
+        with zipfile.ZipFile(self.built("one")) as opened:
+            self.assertEqual({about.external_attr >> 16 for about in opened.infolist()}, {0o100644})
 
     def test_same_wheel_from_the_same_source(self):
         self.assertEqual(self.built("one").read_bytes(), self.built("two").read_bytes())
@@ -156,9 +160,9 @@ class Installed(PackageTest):
         said, status = run(*words, "slip.py", folder=self.folder)
         self.assertIn('Argument 1 to "insert" of "Store" has incompatible type "int"; expected "Label"', said)
 
-    def assert_not_built(self, words, **environment):
+    def assert_not_built(self, words, *options, **environment):
         """An installation fails with these words, on one line and without a traceback."""
-        said, status = self.installed(**environment)
+        said, status = self.installed(*options, **environment)
         self.assertNotEqual(status, 0)
         self.assertRegex(said, f"(?m)^ *{words}$")
         self.assertNotIn("Traceback", said)
@@ -179,6 +183,10 @@ class Installed(PackageTest):
         words = f"dossier cannot be built: {self.folder}/libdossier_c.a is missing: run `tools/build --archive dossier_c` "
         words += "at the project's root, or set DOSSIER_C_DIR to the folder that holds libdossier_c.a"
         self.assert_not_built(words, DOSSIER_C_DIR=str(self.folder))
+
+    def test_editable(self):
+        words = "dossier is not installed in editable mode, since its library would be missing: install hosts/python without -e"
+        self.assert_not_built(words, "--editable")
 
     def test_archive_elsewhere(self):
         shutil.copy(ROOT / "target" / "staticlib" / "libdossier_c.a", self.folder)

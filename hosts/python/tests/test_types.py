@@ -1,9 +1,13 @@
-"""Labels, paths, views, masks and stores as Python has them: read from texts, shown, compared, iterated; and wrong types, each
-told where it is given, with what to give instead."""
+"""Labels, paths, views, masks and stores as Python has them: read from texts, shown, compared, iterated; the header's lengths;
+and wrong types, each told where it is given, with what to give instead."""
+import pathlib
+import random
+import re
 import unittest
 
-from dossier import STORE_BYTES, Compartment, Group, Label, Level, Line, Mask, Measure, Path, Step, Store, Text, View, raw
-from support import LISTING, P10, example, label, path
+import dossier
+from dossier import STORE_BYTES, Compartment, Group, Kind, Label, Level, Line, Mask, Measure, Path, Step, Store, Text, View, raw
+from support import LISTING, P10, ROOT, example, label, path
 
 # The number and the words of some labels.
 WORDS = {0: "open", 1: "open+sizing", 10: "trade+fabric", 19: "house+sizing+fabric", 31: "sealed+sizing+fabric+cost"}
@@ -13,8 +17,11 @@ NO_LABELS = ["", "32", "287", "-1", "+5", "05", "house+", "+house", "house+sizin
 NO_LABELS += ["7\n", "٣", "12345678901"]
 
 # Texts that are no paths.
-NO_PATHS = ["", "10", "10:", ":0", "10:0/", "/10:0", "10:32", "65536:0", "010:0", "10:0//20:0", "10:0 ", "//", "+1:0", "1:0:0"]
-NO_PATHS += ["1:٣", "٣:1", "10:0\n"]
+NO_PATHS = ["", "10", "10:", ":0", "10:0/", "10:32", "65536:0", "010:0", "10:0//20:0", "10:0 ", "//", "+1:0", "1:0:0"]
+NO_PATHS += ["1:٣", "٣:1", "10:0\n", "//10:0", "/10:0/", "/10"]
+
+# Paths in path order.
+ORDER = "9:31 10:25 10:16 10:16/1:31 10:16/1:16 10:8 10:9 10:0 10:0/1:24 10:0/1:0 10:0/1:0/1:9 10:0/2:31 10:1 11:0".split()
 
 
 class Labels(unittest.TestCase):
@@ -30,6 +37,26 @@ class Labels(unittest.TestCase):
             self.assertEqual(Label.parse(str(number)), label(number))
         self.assertEqual(Label.parse("sealed+cost+sizing"), label(29))
 
+    def test_parts_in_words(self):
+        levels = ["open", "trade", "house", "sealed"]
+        self.assertEqual(([str(level) for level in Level], [f"{level}" for level in Level]), (levels, levels))
+        some = [Compartment.NONE, Compartment.FABRIC, Compartment.COST | Compartment.SIZING, Compartment(7), Compartment(9)]
+        words = ["none", "fabric", "sizing+cost", "sizing+fabric+cost", "sizing+8"]
+        self.assertEqual(([str(one) for one in some], [f"{one}" for one in some]), (words, words))
+        self.assertEqual((f"{Level.HOUSE:>6}", f"{Compartment.COST:>6}"), (" house", "  cost"))
+        self.assertEqual((repr(Level.HOUSE), Level.HOUSE * 8), ("<Level.HOUSE: 2>", 16))
+
+    def test_all(self):
+        self.assertEqual([one.number for one in Label.all()], list(range(32)))
+
+    def test_compartments(self):
+        self.assertEqual([one.number for one in Label.all() if one.has(Compartment.FABRIC)][:5], [2, 3, 6, 7, 10])
+        both = Compartment.SIZING | Compartment.COST
+        self.assertEqual([one.number for one in Label.all() if one.has(both)], [5, 7, 13, 15, 21, 23, 29, 31])
+
+    def test_no_order(self):
+        self.assertRaises(TypeError, sorted, [label(0), label(1)])
+
     def test_what_is_no_label(self):
         for text in NO_LABELS:
             with self.assertRaisesRegex(ValueError, "is no label: a label is a number from 0 to 31, or open"):
@@ -43,6 +70,7 @@ class Paths(unittest.TestCase):
         for text in "/", "1:0", "10:0/20:16", "0:31", "65535:31/1:31/1:31/1:31/1:31/1:31/1:31":
             self.assertEqual(str(Path.parse(text)), text)
         self.assertEqual(Path.parse("10:open/20:house+sizing"), Path(path((10, 0), (20, 17))))
+        self.assertEqual(str(Path.parse("/10:0/20:house")), "10:0/20:16")
         self.assertEqual(repr(Path.parse("10:0/20:16")), "Path.parse('10:0/20:16')")
         self.assertEqual(repr(Path.root()), "Path.root()")
 
@@ -66,6 +94,36 @@ class Paths(unittest.TestCase):
         self.assertEqual((steps.parent, Path.root().parent), (Path.parse("10:0/20:16"), None))
         self.assertEqual(steps[1], Step(20, label(16)))
         self.assertEqual((hash(steps), steps), (hash(Path(list(steps))), tuple(steps)))
+
+    def test_order(self):
+        paths = [Path.parse(text) for text in ORDER]
+        for at, one in enumerate(paths):
+            places = range(len(paths))
+            self.assertEqual([one < other for other in paths], [at < place for place in places])
+            self.assertEqual([one <= other for other in paths], [at <= place for place in places])
+            self.assertEqual([one > other for other in paths], [at > place for place in places])
+            self.assertEqual([one >= other for other in paths], [at >= place for place in places])
+        self.assertEqual((min(paths[::-1]), max(paths)), (paths[0], paths[-1]))
+        self.assertLess(Path.root(), paths[0])
+
+    def test_order_of_steps(self):
+        low, high = Step(10, label(8)), Step(10, label(9))
+        self.assertEqual((low < high, low <= high, low > high, low >= high), (True, True, False, False))
+        self.assertEqual((low < low, low <= low, low > low, low >= low), (False, True, False, True))
+        self.assertEqual((low < (11, label(8)), (9, label(8)) < low), (True, True))
+
+    def test_order_of_a_view(self):
+        store = Store()
+        for one in Label.all():
+            for text in f"7:{one}", f"7:0/3:{one}", f"7:0/3:0/7:{one}", f"7:{one}/7:{one}/2:{one}", f"3:{one}":
+                store.insert(one, Path.parse(text), Measure(1))
+        view = store.view(label(31))
+        paths = [line.path for line in view]
+        self.assertEqual((len(paths), max(map(len, paths))), (192, 3))
+        shuffled = random.Random(7).sample(list(view), len(view))
+        self.assertNotEqual(shuffled, list(view))
+        self.assertEqual(sorted(shuffled), list(view))
+        self.assertEqual(sorted(line.path for line in shuffled), paths)
 
     def test_calls_take_any_steps(self):
         store = Store()
@@ -112,6 +170,23 @@ class Views(unittest.TestCase):
         self.assertEqual(len({view[0], view[1], example().view(label(16))[0]}), 2)
 
 
+class Forms(unittest.TestCase):
+    """What is formatted as its string is, and the lengths that the header has too."""
+
+    def test_formatted(self):
+        view = example().view(label(0))
+        self.assertEqual(f"{label(9):>5}|{Path.parse('10:0/20:16'):<12}|{Path.root():^3}|", "    9|10:0/20:16  | / |")
+        self.assertEqual((f"{view}", f"{view:>11}"), ("VIEW\t0\t0\n", "  VIEW\t0\t0\n"))
+        self.assertEqual([f"{kind:.4}" for kind in Kind], ["grou", "meas", "text"])
+        self.assertEqual(([str(kind) for kind in Kind], repr(Kind.TEXT)), (["group", "measure", "text"], "<Kind.TEXT: 2>"))
+
+    def test_lengths(self):
+        header = (ROOT / "include" / "dossier.h").read_text()
+        lengths = dict(re.findall(r"^#define DOSSIER_(\w+_BYTES(?:_MAX)?) ([0-9]+)$", header, re.MULTILINE))
+        self.assertEqual({name: str(getattr(dossier, name)) for name in dossier.__all__ if "_BYTES" in name}, lengths)
+        self.assertEqual((len(lengths), lengths["PATH_BYTES_MAX"]), (8, "18"))
+
+
 class Masks(unittest.TestCase):
     """Masks as collections of labels."""
 
@@ -150,12 +225,18 @@ class Stores(unittest.TestCase):
         self.assertNotEqual(Store(), Store())
 
 
+# What is said where compartments are given wrongly.
+JOINED = ": compartments are joined by |, as in Compartment.SIZING | Compartment.COST"
+
 # What is given wrongly, and what is said: a call, its arguments, the words.
 WRONG = [
     (Label, ("house",), "the level is no whole number but a str: Label.parse('house') reads words"),
     (Label, (2.0,), "the level is no whole number but a float"),
-    (Label, (Level.HOUSE, "cost"), "the compartments' number is no whole number but a str"),
+    (Label, (Level.HOUSE, "cost"), f"the compartments' number is no whole number but a str{JOINED}"),
+    (Label, (Level.HOUSE, [Compartment.COST]), f"the compartments' number is no whole number but a list{JOINED}"),
     (Label.from_number, ("16",), "the number of a label is no whole number but a str"),
+    (label(16).has, ("cost",), "the compartment is no Compartment but a str: Compartment.SIZING is one"),
+    (label(16).has, (4,), "the compartment is no Compartment but an int: Compartment.SIZING is one"),
     (Label.parse, (16,), "the text of a label is no str but an int"),
     (label(16).dominates, (3,), "the other label is no Label but an int: Label.from_number(3) makes one"),
     (Mask(1).has, (3,), "the label is no Label but an int: Label.from_number(3) makes one"),
@@ -168,12 +249,17 @@ WRONG = [
     (Path.root().child, (10, 0), "the label of step 1 of the path is no Label but an int: Label.from_number(0) makes one"),
     (Store, (64,), "the buffer is no buffer of bytes but an int"),
     (Store, ("shirts",), "the buffer is no buffer of bytes but a str: Store.open('shirts') opens a file"),
+    (Store, (pathlib.Path("a"),), "the buffer is no buffer of bytes but a PosixPath: Store.open('a') opens a file"),
+    (Store, (Store(),), "the buffer is no buffer of bytes but a Store: store.buffer is one"),
     (Store.open, (64,), "the path is no name of a file but an int"),
     (Store.read, (None,), "the path is no name of a file but None"),
     (Store.create, (Path.root(),), "the path is no name of a file but a Path"),
+    (Store().save_as, (None,), "the path is no name of a file but None"),
     (Store.open, ("none", 5), "wait is True or False and not an int: there is no limit of time"),
     (Store.read, ("none", 0.5), "wait is True or False and not a float: there is no limit of time"),
     (raw.view, ("", 0, b"", bytearray(9)), "the store is no buffer of bytes but a str"),
+    (raw.view, (Store(), 0, b"", bytearray(9)), "the store is no buffer of bytes but a Store: store.buffer is one"),
+    (raw.migrate, (Store(),), "the store is no buffer of bytes but a Store: store.buffer is one"),
     (raw.view, (b"", 0.5, b"", bytearray(9)), "the subject is no whole number but a float"),
     (raw.view, (b"", 0, "", bytearray(9)), "the path is no buffer of bytes but a str"),
     (raw.insert, (bytearray(9), 0, P10, "G", b""), "the kind is no whole number but a str"),
@@ -189,6 +275,7 @@ SUBJECTS = {
     16: "the subject is no Label but an int: Label.from_number(16) makes one",
     "house": "the subject is no Label but a str: Label.parse('house') makes one",
     Level.HOUSE: "the subject is no Label but a Level: Label(Level.HOUSE) makes one",
+    Compartment.COST: "the subject is no Label but a Compartment: Label.from_number(4) makes one",
     None: "the subject is no Label but None: Label.from_number(16) and Label.parse('house') make one",
 }
 STEPS = [
@@ -205,6 +292,11 @@ VALUES = [
     (850, "Measure(850) makes one", "an int"),
     ("SLEEVE", "Text('SLEEVE') makes one", "a str"),
     (Group, "Group() makes one", "the class Group"),
+    (Text, "Text('SLEEVE') makes one", "the class Text"),
+    (Kind.GROUP, "Group() makes one", "a Kind"),
+    (Kind.MEASURE, "Measure(850) makes one", "a Kind"),
+    (Kind.TEXT, "Text('SLEEVE') makes one", "a Kind"),
+    (Level.HOUSE, "Measure(2) makes one", "a Level"),
     (None, "Group(), Measure(850) and Text('SLEEVE') make one", "None"),
 ]
 
@@ -260,6 +352,13 @@ class WrongTypes(unittest.TestCase):
         for n, said in (3.0, "a float"), ("3", "a str"), (None, "None"):
             words = f"the number of sizes is no whole number but {said}"
             self.assert_told(words, Store().grade, label(0), Path.root(), Path.root(), n)
+
+    def test_numbers_that_are_no_label(self):
+        for number in -1, 32:
+            with self.assertRaisesRegex(ValueError, f"^{number} is no label: a label is a number from 0 to 31$"):
+                Label.from_number(number)
+        with self.assertRaisesRegex(ValueError, "^no label has level 3 and compartments 8$"):
+            Label(Level.SEALED, Compartment(8))
 
     def test_names_that_do_not_fit(self):
         for name in -1, 65536:

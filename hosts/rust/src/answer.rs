@@ -64,6 +64,7 @@ impl GradeAnswer {
 
 /// An even grade in n sizes: top minus base is n × step + remainder.
 #[derive(Clone, Copy, Debug, PartialEq, Eq, Hash)]
+#[must_use]
 pub struct Grade {
     /// The step from one size to the next, in hundredths of a millimetre, rounded down.
     pub step: i64,
@@ -107,6 +108,12 @@ impl Mask {
     #[must_use]
     pub const fn bits(self) -> u32 {
         self.0
+    }
+
+    /// Whether there is none of them.
+    #[must_use]
+    pub const fn is_empty(self) -> bool {
+        self.0 == 0
     }
 
     /// Whether the partition of a label was left as it was.
@@ -382,6 +389,7 @@ mod tests {
         assert_eq!(numbers(0x8000_0001), [0, 31]);
         assert_eq!(numbers(u32::MAX), (0..32).collect::<Vec<_>>());
         assert_eq!((Mask(544).labels().len(), u32::from(Mask(544))), (2, 544));
+        assert_eq!((Mask(544).is_empty(), Mask(0).is_empty()), (false, true));
         let has = |number| Label::from_number(number).is_some_and(|label| Mask(544).has(label));
         assert_eq!((0..32).filter(|number| has(*number)).collect::<Vec<_>>(), [5, 9]);
     }

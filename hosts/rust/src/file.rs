@@ -13,6 +13,7 @@ use std::ops::{Deref, DerefMut};
 use std::os::unix::fs::{fchown, FileExt, MetadataExt, OpenOptionsExt};
 use std::path::{Path, PathBuf};
 
+use crate::file_error::{FileCause, FileError};
 use crate::{access_list, Store, STORE_BYTES};
 
 /// The mode of a file that is made: its owner's alone, since it holds the texts of every label.
@@ -25,72 +26,27 @@ const TRIES: u32 = 100;
 pub enum Wait {
     /// Wait until it is let go.
     Yes,
-    /// Give up: [`FileError::InUse`].
+    /// Give up: [`FileCause::InUse`].
     No,
 }
 
-/// Why a store in a file could not be opened or saved.
-#[derive(Debug)]
-#[non_exhaustive]
-pub enum FileError {
-    /// The file could not be opened or read.
-    Open(io::Error),
-    /// The file is a folder, a device or a pipe.
-    NotRegular,
-    /// The file has this many bytes and not [`STORE_BYTES`]; or the store that is to be saved has, and nothing was.
-    NoStore(u64),
-    /// There is a file of this name already.
-    Exists,
-    /// Another holds the lock.
-    InUse,
-    /// The file could not be locked.
-    Lock(io::Error),
-    /// The file is no longer the one that was read; nothing was saved.
-    Changed,
-    /// The new file could not be made, written or given its name; the old store, if there was one, is there.
-    Save(io::Error),
-    /// The new store is there, but its folder could not be synced, so that the name may not survive a loss of power.
-    NotSynced(io::Error),
+/// Makes a file with these bytes, those of a store, its owner's alone. No file is overwritten: a new file beside it is filled and
+/// then linked to the name, which the system refuses where there is one.
+pub(crate) fn create(path: &Path, store: &[u8]) -> Result<(), FileError> {
+    make(path, store).map_err(|cause| FileError::new(path, cause))
 }
 
-impl fmt::Display for FileError {
-    fn fmt(&self, out: &mut fmt::Formatter<'_>) -> fmt::Result {
-        match self {
-            FileError::Open(error) => write!(out, "the file cannot be opened: {error}"),
-            FileError::NotRegular => write!(out, "it is no regular file"),
-            FileError::NoStore(length) => write!(out, "it is no store: it has {length} bytes, a store has {STORE_BYTES}"),
-            FileError::Exists => write!(out, "there is a file of this name already"),
-            FileError::InUse => write!(out, "the file is in use"),
-            FileError::Lock(error) => write!(out, "the file cannot be locked: {error}"),
-            FileError::Changed => write!(out, "not saved: the file was changed meanwhile"),
-            FileError::Save(error) => write!(out, "not saved: {error}"),
-            FileError::NotSynced(error) => write!(out, "saved, but its folder is not synced: {error}"),
-        }
+/// The same, or why not.
+fn make(path: &Path, store: &[u8]) -> Result<(), FileCause> {
+    if store.len() != STORE_BYTES {
+        return Err(FileCause::Length(store.len()));
     }
-}
-
-impl std::error::Error for FileError {
-    fn source(&self) -> Option<&(dyn std::error::Error + 'static)> {
-        match self {
-            FileError::Open(error) | FileError::Lock(error) | FileError::Save(error) | FileError::NotSynced(error) => Some(error),
-            _ => None,
-        }
-    }
-}
-
-/// Makes a file with an empty store, its owner's alone. No file is overwritten: a new file beside it is filled and then linked to
-/// the name, which the system refuses where there is one.
-///
-/// # Errors
-///
-/// Where there is a file of this name, or it cannot be made.
-pub fn create(path: &Path) -> Result<(), FileError> {
-    let (mut file, new_name) = new_beside(path).map_err(FileError::Save)?;
-    let made = fill(&mut file, Store::empty().as_bytes()).and_then(|()| fs::hard_link(&new_name, path));
+    let (mut file, new_name) = new_beside(path).map_err(FileCause::Save)?;
+    let made = fill(&mut file, store).and_then(|()| fs::hard_link(&new_name, path));
     let _ = fs::remove_file(&new_name);
     match made {
-        Err(error) if error.kind() == ErrorKind::AlreadyExists => Err(FileError::Exists),
-        Err(error) => Err(FileError::Save(error)),
+        Err(error) if error.kind() == ErrorKind::AlreadyExists => Err(FileCause::Exists),
+        Err(error) => Err(FileCause::Save(error)),
         Ok(()) => sync_folder(path),
     }
 }
@@ -100,17 +56,18 @@ pub fn create(path: &Path) -> Result<(), FileError> {
 /// # Errors
 ///
 /// Where the file cannot be opened, locked or read, or is no store.
-pub fn read(path: &Path, wait: Wait) -> Result<Store, FileError> {
-    let opened = open_locked(path, Access::Shared, wait)?;
-    read_store(&opened.file).map(Store::from)
+pub fn read(path: impl AsRef<Path>, wait: Wait) -> Result<Store, FileError> {
+    let path = path.as_ref();
+    let opened = open_locked(path, Access::Shared, wait).and_then(|opened| read_store(&opened.file));
+    opened.map(Store::from).map_err(|cause| FileError::new(path, cause))
 }
 
 /// A store that is read from a file and may be saved there; it has all calls of a [`Store`]. Nobody else who takes locks reads or
 /// saves it meanwhile. What is not saved when it is dropped is lost.
+#[must_use]
 pub struct StoreFile {
-    name: PathBuf,
-    file: File,
-    denied: Option<ErrorKind>,
+    path: PathBuf,
+    opened: Opened,
     read: Vec<u8>,
     store: Store,
 }
@@ -118,14 +75,22 @@ pub struct StoreFile {
 impl StoreFile {
     /// Opens a file and locks it, until this is dropped. Symbolic links are followed.
     ///
+    /// Whoever has the file open already is waited for, in this program too: one thread that opens a file twice waits for ever.
+    ///
     /// # Errors
     ///
     /// Where the file cannot be opened, locked or read, or is no store.
-    pub fn open(path: &Path, wait: Wait) -> Result<StoreFile, FileError> {
-        let Opened { name, file, denied } = open_locked(path, Access::Alone, wait)?;
-        let read = read_store(&file)?;
-        let store = Store::from(read.clone());
-        Ok(StoreFile { name, file, denied, read, store })
+    pub fn open(path: impl AsRef<Path>, wait: Wait) -> Result<StoreFile, FileError> {
+        let path = path.as_ref();
+        let opened = open_locked(path, Access::Alone, wait).and_then(|opened| Ok((read_store(&opened.file)?, opened)));
+        let (read, opened) = opened.map_err(|cause| FileError::new(path, cause))?;
+        Ok(StoreFile { path: path.to_owned(), opened, store: Store::from(read.clone()), read })
+    }
+
+    /// The file, as it was named.
+    #[must_use]
+    pub fn path(&self) -> &Path {
+        &self.path
     }
 
     /// Saves the store by a new file, synced and renamed, if a byte has changed since it was read or saved: whether it has. The
@@ -135,44 +100,49 @@ impl StoreFile {
     ///
     /// Where the file is no longer the one that was read, or the new one cannot be made: the old store stays then.
     pub fn save(&mut self) -> Result<bool, FileError> {
+        self.save_changes().map_err(|cause| FileError::new(&self.path, cause))
+    }
+
+    /// The same, or why not.
+    fn save_changes(&mut self) -> Result<bool, FileCause> {
         let bytes = self.store.as_bytes();
         if bytes == self.read {
             return Ok(false);
         }
         if bytes.len() != STORE_BYTES {
-            return Err(FileError::NoStore(bytes.len() as u64));
+            return Err(FileCause::Length(bytes.len()));
         }
-        if let Some(kind) = self.denied {
-            return Err(FileError::Save(kind.into()));
+        if let Some(kind) = self.opened.denied {
+            return Err(FileCause::Save(kind.into()));
         }
-        let (mut file, new_name) = new_beside(&self.name).map_err(FileError::Save)?;
-        if let Err(error) = self.replace(&mut file, &new_name) {
+        let (mut file, new_name) = new_beside(&self.opened.name).map_err(FileCause::Save)?;
+        if let Err(cause) = self.replace(&mut file, &new_name) {
             let _ = fs::remove_file(&new_name);
-            return Err(error);
+            return Err(cause);
         }
-        self.file = file;
+        self.opened.file = file;
         self.read.clone_from_slice(self.store.as_bytes());
-        sync_folder(&self.name).map(|()| true)
+        sync_folder(&self.opened.name).map(|()| true)
     }
 
     /// Fills the new file, which is locked before anybody can find it, and gives it the store's name.
-    fn replace(&self, new: &mut File, new_name: &Path) -> Result<(), FileError> {
+    fn replace(&self, new: &mut File, new_name: &Path) -> Result<(), FileCause> {
         lock(new, Access::Alone, Wait::No)?;
-        set_rights(new, &self.file).and_then(|()| fill(new, self.store.as_bytes())).map_err(FileError::Save)?;
+        set_rights(new, &self.opened.file).and_then(|()| fill(new, self.store.as_bytes())).map_err(FileCause::Save)?;
         if !self.is_as_read() {
-            return Err(FileError::Changed);
+            return Err(FileCause::Changed);
         }
-        fs::rename(new_name, &self.name).map_err(FileError::Save)
+        fs::rename(new_name, &self.opened.name).map_err(FileCause::Save)
     }
 
     /// Whether the file that was read has the same bytes and still bears the name, which is looked at last.
     fn is_as_read(&self) -> bool {
         let mut bytes = vec![0; STORE_BYTES];
-        let length = self.file.metadata().map(|about| about.len());
+        let length = self.opened.file.metadata().map(|about| about.len());
         length.is_ok_and(|length| length == STORE_BYTES as u64)
-            && self.file.read_exact_at(&mut bytes, 0).is_ok()
+            && self.opened.file.read_exact_at(&mut bytes, 0).is_ok()
             && self.read == bytes
-            && bears(&self.name, &self.file)
+            && bears(&self.opened.name, &self.opened.file)
     }
 }
 
@@ -192,7 +162,7 @@ impl DerefMut for StoreFile {
 
 impl fmt::Debug for StoreFile {
     fn fmt(&self, out: &mut fmt::Formatter<'_>) -> fmt::Result {
-        write!(out, "Store in {}", self.name.display())
+        write!(out, "Store in {}", self.path.display())
     }
 }
 
@@ -211,13 +181,13 @@ struct Opened {
 }
 
 /// Opens and locks a file; again where another file has got the name meanwhile.
-fn open_locked(path: &Path, access: Access, wait: Wait) -> Result<Opened, FileError> {
+fn open_locked(path: &Path, access: Access, wait: Wait) -> Result<Opened, FileCause> {
     loop {
-        let name = fs::canonicalize(path).map_err(FileError::Open)?;
-        if !fs::metadata(&name).map_err(FileError::Open)?.is_file() {
-            return Err(FileError::NotRegular);
+        let name = fs::canonicalize(path).map_err(FileCause::Open)?;
+        if !fs::metadata(&name).map_err(FileCause::Open)?.is_file() {
+            return Err(FileCause::NotRegular);
         }
-        let (file, denied) = open_as(&name, access).map_err(FileError::Open)?;
+        let (file, denied) = open_as(&name, access).map_err(FileCause::Open)?;
         lock(&file, access, wait)?;
         if bears(path, &file) && bears(&name, &file) {
             return Ok(Opened { name, file, denied });
@@ -240,16 +210,16 @@ fn open_as(name: &Path, access: Access) -> io::Result<(File, Option<ErrorKind>)>
 }
 
 /// Locks a file.
-fn lock(file: &File, access: Access, wait: Wait) -> Result<(), FileError> {
+fn lock(file: &File, access: Access, wait: Wait) -> Result<(), FileCause> {
     let tried = match (access, wait) {
-        (Access::Shared, Wait::Yes) => return file.lock_shared().map_err(FileError::Lock),
-        (Access::Alone, Wait::Yes) => return file.lock().map_err(FileError::Lock),
+        (Access::Shared, Wait::Yes) => return file.lock_shared().map_err(FileCause::Lock),
+        (Access::Alone, Wait::Yes) => return file.lock().map_err(FileCause::Lock),
         (Access::Shared, Wait::No) => file.try_lock_shared(),
         (Access::Alone, Wait::No) => file.try_lock(),
     };
     tried.map_err(|error| match error {
-        TryLockError::WouldBlock => FileError::InUse,
-        TryLockError::Error(error) => FileError::Lock(error),
+        TryLockError::WouldBlock => FileCause::InUse,
+        TryLockError::Error(error) => FileCause::Lock(error),
     })
 }
 
@@ -263,14 +233,14 @@ fn bears(name: &Path, file: &File) -> bool {
 }
 
 /// The bytes of a file that has those of a store.
-fn read_store(file: &File) -> Result<Vec<u8>, FileError> {
+fn read_store(file: &File) -> Result<Vec<u8>, FileCause> {
     let mut bytes = Vec::with_capacity(STORE_BYTES + 1);
-    file.take(STORE_BYTES as u64 + 1).read_to_end(&mut bytes).map_err(FileError::Open)?;
+    file.take(STORE_BYTES as u64 + 1).read_to_end(&mut bytes).map_err(FileCause::Open)?;
     let count = bytes.len() as u64;
     if bytes.len() == STORE_BYTES {
         return Ok(bytes);
     }
-    Err(FileError::NoStore(file.metadata().map_or(count, |about| about.len().max(count))))
+    Err(FileCause::NoStore(file.metadata().map_or(count, |about| about.len().max(count))))
 }
 
 /// A new file beside this one: its name, a dot and six letters.
@@ -313,10 +283,10 @@ fn fill(file: &mut File, bytes: &[u8]) -> io::Result<()> {
 }
 
 /// Syncs the folder that a file stands in, so that its name survives a loss of power.
-fn sync_folder(name: &Path) -> Result<(), FileError> {
+fn sync_folder(name: &Path) -> Result<(), FileCause> {
     let folder = match name.parent() {
         Some(folder) if folder != Path::new("") => folder,
         _ => Path::new("."),
     };
-    File::open(folder).and_then(|folder| folder.sync_all()).map_err(FileError::NotSynced)
+    File::open(folder).and_then(|folder| folder.sync_all()).map_err(FileCause::NotSynced)
 }

@@ -57,9 +57,13 @@ pub struct Label(u8);
 impl Label {
     /// The label of a level and some compartments.
     #[must_use]
-    pub fn new(level: Level, compartments: &[Compartment]) -> Label {
-        let start = level as u8 * 8;
-        Label(compartments.iter().fold(start, |number, compartment| number | *compartment as u8))
+    pub const fn new(level: Level, compartments: &[Compartment]) -> Label {
+        let (mut number, mut at) = (level as u8 * 8, 0);
+        while at < compartments.len() {
+            number |= compartments[at] as u8;
+            at += 1;
+        }
+        Label(number)
     }
 
     /// The label of a number, if it is one.
@@ -125,7 +129,7 @@ impl TryFrom<u32> for Label {
     type Error = NoLabel;
 
     fn try_from(number: u32) -> Result<Label, NoLabel> {
-        Label::from_number(number).ok_or(NoLabel)
+        Label::from_number(number).ok_or_else(|| NoLabel { given: number.to_string() })
     }
 }
 
@@ -142,15 +146,15 @@ impl From<Label> for u8 {
 }
 
 /// What is no label: a text or a number.
-#[derive(Clone, Copy, Debug, PartialEq, Eq)]
-pub struct NoLabel;
+#[derive(Clone, Debug, PartialEq, Eq)]
+pub struct NoLabel {
+    given: String,
+}
 
 impl fmt::Display for NoLabel {
     fn fmt(&self, out: &mut fmt::Formatter<'_>) -> fmt::Result {
-        write!(
-            out,
-            "a label is a number from 0 to 31, or open, trade, house or sealed, each with +sizing, +fabric or +cost behind it"
-        )
+        let rule = "a number from 0 to 31, or open, trade, house or sealed, each with +sizing, +fabric or +cost behind it";
+        write!(out, "'{}' is no label: a label is {rule}", self.given)
     }
 }
 
@@ -161,19 +165,19 @@ impl FromStr for Label {
 
     /// Reads a number from 0 to 31, or words: a level and then the compartments, each once, parted by `+`.
     fn from_str(text: &str) -> Result<Label, NoLabel> {
-        if let Some(number) = number_of(text) {
-            return number.try_into();
-        }
-        let mut words = text.split('+');
-        let level = find(&LEVELS, words.next()).ok_or(NoLabel)?;
-        words.try_fold(Label::new(level, &[]), |label, word| {
-            let compartment = find(&COMPARTMENTS, Some(word)).ok_or(NoLabel)?;
-            if label.has(compartment) {
-                return Err(NoLabel);
-            }
-            Ok(Label(label.0 | compartment as u8))
-        })
+        let label = number_of(text).map_or_else(|| of_words(text), Label::from_number);
+        label.ok_or_else(|| NoLabel { given: text.to_owned() })
     }
+}
+
+/// The label of words: a level and then the compartments, each once.
+fn of_words(text: &str) -> Option<Label> {
+    let mut words = text.split('+');
+    let level = find(&LEVELS, words.next()?)?;
+    words.try_fold(Label::new(level, &[]), |label, word| {
+        let compartment = find(&COMPARTMENTS, word).filter(|compartment| !label.has(*compartment))?;
+        Some(Label(label.0 | compartment as u8))
+    })
 }
 
 /// The name of one of these.
@@ -182,8 +186,8 @@ fn name_of<T: PartialEq>(named: &[(T, &'static str)], this: &T) -> &'static str 
 }
 
 /// What bears this name.
-fn find<T: Copy>(named: &[(T, &str)], word: Option<&str>) -> Option<T> {
-    named.iter().find(|(_, name)| Some(*name) == word).map(|(this, _)| *this)
+fn find<T: Copy>(named: &[(T, &str)], word: &str) -> Option<T> {
+    named.iter().find(|(_, name)| *name == word).map(|(this, _)| *this)
 }
 
 #[cfg(test)]
@@ -205,7 +209,7 @@ mod tests {
     #[test]
     fn no_number_is_narrowed_into_a_label() {
         assert_eq!((0..=31).filter_map(Label::from_number).map(Label::number).collect::<Vec<_>>(), (0..=31).collect::<Vec<_>>());
-        assert!([32, 255, 256, 287, u32::MAX].into_iter().all(|number| Label::try_from(number) == Err(NoLabel)));
+        assert!([32, 255, 256, 287, u32::MAX].into_iter().all(|number| Label::try_from(number).is_err()));
         assert_eq!(Label::all().map(u32::from).collect::<Vec<_>>(), (0..=31).collect::<Vec<_>>());
     }
 
@@ -231,7 +235,10 @@ mod tests {
         let texts =
             ["", "32", "287", "-1", "+5", "05", "house+", "+house", "house+sizing+sizing", "sizing", "House", "house sizing"];
         for text in texts {
-            assert_eq!(text.parse::<Label>(), Err(NoLabel), "{text}");
+            assert_eq!(text.parse::<Label>(), Err(NoLabel { given: text.to_owned() }));
         }
+        let rule = "a number from 0 to 31, or open, trade, house or sealed, each with +sizing, +fabric or +cost behind it";
+        let refused = [Label::try_from(32), "house+".parse()].map(|read| read.map_err(|error| error.to_string()));
+        assert_eq!(refused, ["32", "house+"].map(|given| Err(format!("'{given}' is no label: a label is {rule}"))));
     }
 }

@@ -78,6 +78,7 @@ compile_error!("the dossier calls take lengths of 64 bits");
 mod access_list;
 mod answer;
 pub mod file;
+mod file_error;
 mod label;
 mod listing;
 mod path;
@@ -86,7 +87,8 @@ mod store;
 mod value;
 
 pub use answer::{Answer, Error, Grade, GradeAnswer, Labels, Mask, MigrationAnswer, Refusal};
-pub use file::{FileError, StoreFile, Wait};
+pub use file::{StoreFile, Wait};
+pub use file_error::{FileCause, FileError};
 pub use label::{Compartment, Label, Level, NoLabel};
 pub use listing::{Line, Lines, Mark, View};
 pub use path::{NoPath, Path, Steps};
@@ -101,6 +103,18 @@ pub const STORE_BYTES: usize = 41_088;
 
 /// How many bytes a partition has; the one of label n starts at n times this.
 pub const PARTITION_BYTES: usize = 1_284;
+
+/// How many bytes a step of a path has.
+pub const STEP_BYTES: usize = 3;
+
+/// No valid path has more bytes: six steps.
+pub const PATH_BYTES_MAX: usize = 18;
+
+/// How many bytes a measure has.
+pub const MEASURE_BYTES: usize = 4;
+
+/// No text that is allowed has more bytes.
+pub const TEXT_BYTES_MAX: usize = 16;
 
 /// No listing has more bytes: at most 1,024 lines of live elements, 5,120 of removed ones and the first. An output of this
 /// length is never refused by 10.

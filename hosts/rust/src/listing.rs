@@ -11,16 +11,18 @@ use crate::path::Path;
 use crate::value::{Kind, Value};
 
 /// What a view wrote, into bytes of its own or into the output that it was lent.
-#[derive(Clone, Debug, PartialEq, Eq)]
+#[derive(Clone, PartialEq, Eq)]
+#[must_use]
 pub struct View<'a> {
     listing: Cow<'a, [u8]>,
+    subject: Label,
     path: Path,
 }
 
 impl<'a> View<'a> {
-    /// The view of a path with this listing.
-    pub(crate) fn new(listing: Cow<'a, [u8]>, path: &Path) -> View<'a> {
-        View { listing, path: path.clone() }
+    /// A subject's view of a path, with this listing.
+    pub(crate) fn new(listing: Cow<'a, [u8]>, subject: Label, path: &Path) -> View<'a> {
+        View { listing, subject, path: path.clone() }
     }
 
     /// The bytes written: the printed view, its first line included.
@@ -35,16 +37,42 @@ impl<'a> View<'a> {
         self.listing.into_owned()
     }
 
+    /// Who viewed.
+    #[must_use]
+    pub fn subject(&self) -> Label {
+        self.subject
+    }
+
     /// The path that was viewed.
     #[must_use]
     pub fn path(&self) -> &Path {
         &self.path
     }
 
+    /// How many elements are listed.
+    #[must_use]
+    pub fn len(&self) -> usize {
+        self.listing.split(|byte| *byte == b'\n').count().saturating_sub(2)
+    }
+
+    /// Whether none is.
+    #[must_use]
+    pub fn is_empty(&self) -> bool {
+        self.len() == 0
+    }
+
     /// The elements listed, in path order.
     pub fn lines(&self) -> Lines<'_> {
         let (_, rest) = split_line(&self.listing);
         Lines { rest, before: self.path.clone() }
+    }
+}
+
+impl fmt::Debug for View<'_> {
+    /// The subject, the path and the listing as a text.
+    fn fmt(&self, out: &mut fmt::Formatter<'_>) -> fmt::Result {
+        let View { subject, path, .. } = self;
+        out.debug_struct("View").field("subject", subject).field("path", path).field("listing", &self.to_string()).finish()
     }
 }
 
@@ -183,7 +211,7 @@ mod tests {
 
     /// The view of a path with a listing.
     fn view<'a>(path: &str, listing: &'a str) -> View<'a> {
-        View::new(listing.as_bytes().into(), &path.parse().expect("a path"))
+        View::new(listing.as_bytes().into(), Label::from_number(16).expect("a label"), &path.parse().expect("a path"))
     }
 
     /// What a line of a listing says, in words.
@@ -193,8 +221,9 @@ mod tests {
 
     #[test]
     fn the_first_line_is_not_listed() {
-        assert_eq!(view("/", "VIEW\t0\t0\n").lines().count(), 0);
-        assert_eq!(view("/", "VIEW\t0\t1\n1\t10\t0\tP\tG\t-\n").lines().count(), 1);
+        let (none, one) = (view("/", "VIEW\t16\t0\n"), view("/", "VIEW\t16\t1\n1\t10\t0\tP\tG\t-\n"));
+        assert_eq!((none.lines().count(), none.len(), none.is_empty()), (0, 0, true));
+        assert_eq!((one.lines().count(), one.len(), one.is_empty()), (1, 1, false));
     }
 
     #[test]
@@ -250,5 +279,7 @@ mod tests {
         let listing = "VIEW\t16\t1\n1\t10\t0\tR\t-\t-\n";
         assert_eq!(view("/", listing).to_string(), listing);
         assert_eq!(view("/", listing).into_listing(), listing.as_bytes());
+        let shown = r#"View { subject: Label(16), path: Path(/), listing: "VIEW\t16\t1\n1\t10\t0\tR\t-\t-\n" }"#;
+        assert_eq!(format!("{:?}", view("/", listing)), shown);
     }
 }

@@ -5,7 +5,8 @@ use std::path;
 use std::str;
 
 use crate::answer::{Error, Grade, Mask};
-use crate::file::{self, FileError, StoreFile, Wait};
+use crate::file::{self, StoreFile, Wait};
+use crate::file_error::FileError;
 use crate::label::Label;
 use crate::listing::View;
 use crate::path::Path;
@@ -32,13 +33,13 @@ use crate::{raw, LISTING_BYTES_MAX, STORE_BYTES, XML_BYTES_MAX};
 /// read_only.delete(open, &Path::root().child(10, open));
 /// ```
 #[derive(Clone, Copy, PartialEq, Eq)]
+#[must_use]
 pub struct Store<B = Vec<u8>> {
     bytes: B,
 }
 
 impl Store {
     /// An empty store.
-    #[must_use]
     pub fn empty() -> Store {
         Store::from(vec![0; STORE_BYTES])
     }
@@ -49,26 +50,28 @@ impl Store {
     ///
     /// Where there is a file of this name, or it cannot be made.
     pub fn create(path: impl AsRef<path::Path>) -> Result<(), FileError> {
-        file::create(path.as_ref())
+        Store::empty().save_as(path)
     }
 
     /// Reads the store of a file under a shared lock, which is waited for and let go at once: the bytes are the caller's.
+    /// [`file::read`] can do without waiting. Whoever has the file open is waited for, in this program too.
     ///
     /// # Errors
     ///
     /// Where the file cannot be read or is no store.
     pub fn read(path: impl AsRef<path::Path>) -> Result<Store, FileError> {
-        file::read(path.as_ref(), Wait::Yes)
+        file::read(path, Wait::Yes)
     }
 
     /// Opens the store of a file, to be changed and [saved](StoreFile::save). The file is locked, which is waited for, until what
-    /// this gives is dropped. [`StoreFile::open`] can do without waiting.
+    /// this gives is dropped. [`StoreFile::open`] can do without waiting. Whoever has the file open is waited for, in this program
+    /// too: one thread that opens a file twice waits for ever.
     ///
     /// # Errors
     ///
     /// Where the file cannot be opened or is no store.
     pub fn open(path: impl AsRef<path::Path>) -> Result<StoreFile, FileError> {
-        StoreFile::open(path.as_ref(), Wait::Yes)
+        StoreFile::open(path, Wait::Yes)
     }
 }
 
@@ -145,6 +148,15 @@ impl<B: AsRef<[u8]>> Store<B> {
         self.bytes.as_ref()
     }
 
+    /// Makes a file with this store, its owner's alone. No file is overwritten.
+    ///
+    /// # Errors
+    ///
+    /// Where there is a file of this name, it cannot be made, or the store has another length.
+    pub fn save_as(&self, path: impl AsRef<path::Path>) -> Result<(), FileError> {
+        file::create(path.as_ref(), self.as_bytes())
+    }
+
     /// The path and everything in the subject's view below it, each element on a line.
     ///
     /// # Errors
@@ -156,7 +168,7 @@ impl<B: AsRef<[u8]>> Store<B> {
         let count = self.view_into(subject, path, &mut output)?.listing().len();
         output.truncate(count);
         output.shrink_to_fit();
-        Ok(View::new(output.into(), path))
+        Ok(View::new(output.into(), subject, path))
     }
 
     /// Lists what [`view`](Store::view) gives into the output, whose bytes behind the listing keep their contents. An output of
@@ -168,7 +180,7 @@ impl<B: AsRef<[u8]>> Store<B> {
     pub fn view_into<'o>(&self, subject: Label, path: &Path, output: &'o mut [u8]) -> Result<View<'o>, Error> {
         let answer = raw::view(self.as_bytes(), subject.number(), path.as_bytes(), output);
         let listing = written(output, answer.outcome()?).ok_or(Error::Unexpected(answer))?;
-        Ok(View::new(listing.into(), path))
+        Ok(View::new(listing.into(), subject, path))
     }
 
     /// The path and everything in the subject's view below it as XML, bytes 32 to 126 alone.

@@ -43,6 +43,29 @@ pub enum Value<'a> {
     Text(&'a str),
 }
 
+impl From<i32> for Value<'_> {
+    fn from(hundredths: i32) -> Self {
+        Value::Measure(hundredths)
+    }
+}
+
+impl<'a> From<&'a str> for Value<'a> {
+    fn from(text: &'a str) -> Self {
+        Value::Text(text)
+    }
+}
+
+impl fmt::Display for Value<'_> {
+    /// As in a listing: a dash, a number of hundredths, a text as it is.
+    fn fmt(&self, out: &mut fmt::Formatter<'_>) -> fmt::Result {
+        match self {
+            Value::Group => out.pad("-"),
+            Value::Measure(hundredths) => hundredths.fmt(out),
+            Value::Text(text) => out.pad(text),
+        }
+    }
+}
+
 impl Value<'_> {
     /// The value's kind.
     #[must_use]

@@ -9,8 +9,8 @@ use std::sync::atomic::{AtomicU32, Ordering};
 use std::sync::mpsc;
 use std::thread;
 
-use dossier::file::{create, read, FileError, StoreFile, Wait};
-use dossier::{Label, Path, Value, STORE_BYTES};
+use dossier::file::{read, StoreFile, Wait};
+use dossier::{FileCause, FileError, Label, Path, Store, Value, STORE_BYTES};
 
 /// A folder of a test's own, which is removed at its end.
 struct Folder(PathBuf);
@@ -28,7 +28,7 @@ impl Folder {
     fn with_store() -> (Folder, PathBuf) {
         let folder = Folder::new();
         let store = folder.0.join("store");
-        create(&store).expect("a store is made");
+        Store::create(&store).expect("a store is made");
         (folder, store)
     }
 
@@ -50,6 +50,11 @@ fn open() -> Label {
     "open".parse().expect("a label")
 }
 
+/// Why a store could not be opened or saved.
+fn cause<T>(result: Result<T, FileError>) -> FileCause {
+    result.err().expect("an error").into_cause()
+}
+
 /// Inserts an element of one step.
 fn insert(file: &mut StoreFile, name: u16) {
     file.insert(open(), &Path::root().child(name, open()), Value::Group).expect("an insert");
@@ -60,8 +65,8 @@ fn a_store_is_made_once_and_for_its_owner() {
     let (folder, store) = Folder::with_store();
     let about = fs::metadata(&store).expect("the file");
     assert_eq!((about.len(), about.permissions().mode() & 0o777), (STORE_BYTES as u64, 0o600));
-    assert!(matches!(create(&store), Err(FileError::Exists)));
-    assert!(matches!(create(&folder.0.join("none/store")), Err(FileError::Save(_))));
+    assert!(matches!(cause(Store::create(&store)), FileCause::Exists));
+    assert!(matches!(cause(Store::create(folder.0.join("none/store"))), FileCause::Save(_)));
     assert_eq!(folder.names(), ["store"]);
 }
 
@@ -77,7 +82,7 @@ fn what_is_saved_is_read() {
         insert(&mut file, name);
         assert!(file.save().expect("it is saved"));
         assert_eq!(fs::read(&store).expect("the file"), file.as_bytes());
-        assert!(matches!(read(&store, Wait::No), Err(FileError::InUse)));
+        assert!(matches!(cause(read(&store, Wait::No)), FileCause::InUse));
     }
     drop(file);
     assert_ne!(read(&store, Wait::No).expect("it is read").as_bytes(), vec![0; STORE_BYTES]);
@@ -91,11 +96,11 @@ fn a_lock_is_shared_by_those_who_read() {
     let other = File::open(&store).expect("the file");
     other.lock_shared().expect("a lock");
     assert!(read(&store, Wait::No).is_ok());
-    assert!(matches!(StoreFile::open(&store, Wait::No), Err(FileError::InUse)));
+    assert!(matches!(cause(StoreFile::open(&store, Wait::No)), FileCause::InUse));
     other.unlock().expect("no lock");
     let held = StoreFile::open(&store, Wait::No).expect("it opens");
-    assert!(matches!(read(&store, Wait::No), Err(FileError::InUse)));
-    assert!(matches!(StoreFile::open(&store, Wait::No), Err(FileError::InUse)));
+    assert!(matches!(cause(read(&store, Wait::No)), FileCause::InUse));
+    assert!(matches!(cause(StoreFile::open(&store, Wait::No)), FileCause::InUse));
     drop(held);
     assert!(StoreFile::open(&store, Wait::No).is_ok());
 }
@@ -144,7 +149,7 @@ fn what_another_saved_meanwhile_stays() {
         insert(&mut file, 1);
         change(&store);
         let left = fs::read(&store).ok();
-        assert!(matches!(file.save(), Err(FileError::Changed)));
+        assert!(matches!(cause(file.save()), FileCause::Changed));
         assert_eq!(fs::read(&store).ok(), left);
         assert_eq!(folder.names().len(), usize::from(left.is_some()));
     }
@@ -156,9 +161,9 @@ fn what_is_no_store_is_not_opened() {
     let file = folder.0.join("file");
     for length in [0, STORE_BYTES - 1, STORE_BYTES + 1] {
         fs::write(&file, vec![0; length]).expect("a file");
-        assert!(matches!(read(&file, Wait::No), Err(FileError::NoStore(found)) if found == length as u64));
-        assert!(matches!(StoreFile::open(&file, Wait::No), Err(FileError::NoStore(found)) if found == length as u64));
+        assert!(matches!(cause(read(&file, Wait::No)), FileCause::NoStore(found) if found == length as u64));
+        assert!(matches!(cause(StoreFile::open(&file, Wait::No)), FileCause::NoStore(found) if found == length as u64));
     }
-    assert!(matches!(read(&folder.0, Wait::No), Err(FileError::NotRegular)));
-    assert!(matches!(read(&folder.0.join("none"), Wait::No), Err(FileError::Open(_))));
+    assert!(matches!(cause(read(&folder.0, Wait::No)), FileCause::NotRegular));
+    assert!(matches!(cause(read(folder.0.join("none"), Wait::No)), FileCause::Open(_)));
 }

@@ -5,7 +5,8 @@ use std::error;
 use std::{env, fs, process};
 
 use dossier::{
-    Error, FileError, Label, Labels, Line, Mark, Mask, NoLabel, NoPath, Path, Refusal, Store, StoreFile, Value, View, STORE_BYTES,
+    Error, FileCause, FileError, Label, Labels, Line, Mark, Mask, NoLabel, NoPath, Path, Refusal, Store, StoreFile, Value, View,
+    STORE_BYTES,
 };
 
 /// The label of a text.
@@ -113,13 +114,34 @@ fn a_store_shows_none_of_its_bytes() {
 #[test]
 fn labels_and_paths_are_read_and_shown() {
     assert_eq!(Label::try_from(17), Ok(label("house+sizing")));
-    assert_eq!((Label::try_from(32), "32".parse::<Label>()), (Err(NoLabel), Err(NoLabel)));
+    assert_eq!(Label::try_from(32), "32".parse());
     assert_eq!((label("17").to_string(), label("17").words(), u32::from(label("17"))), ("17".into(), "house+sizing".into(), 17));
     assert_eq!(label("29").compartments().map(|one| one.to_string()).collect::<Vec<_>>(), ["sizing", "cost"]);
     assert_eq!(path("10:open/20:house+sizing").to_string(), "10:0/20:17");
-    assert_eq!(("10".parse::<Path>(), Path::try_from(vec![1])), (Err(NoPath), Err(NoPath)));
+    assert_eq!(path("/10:open/20:house+sizing"), path("10:0/20:17"));
+    assert_eq!((Value::from(7200), Value::from("CUFF")), (Value::Measure(7200), Value::Text("CUFF")));
+    assert_eq!(format!("{}|{:>5}|{:<5}|", Value::Group, Value::Measure(-5), Value::Text("A")), "-|   -5|A    |");
     let steps: Vec<(u16, Label)> = path("10:0/20:17").into_iter().collect();
     assert_eq!(steps, [(10, label("0")), (20, label("17"))]);
+}
+
+#[test]
+fn paths_are_in_the_order_of_a_view() {
+    let mut store = Store::empty();
+    for subject in Label::all() {
+        for above in [Path::root(), path("7:0")] {
+            store.insert(subject, &above.child(10, subject), Value::Group).expect("an insert");
+            store.insert(subject, &above.child(10, subject).child(1, subject), Value::Group).expect("an insert");
+        }
+    }
+    let view = store.view(label("31"), &Path::root()).expect("a view");
+    let listed: Vec<Path> = view.lines().map(|line| line.expect("a line").path).collect();
+    assert_eq!((listed.len(), view.len()), (129, 129));
+    let mut sorted = listed.clone();
+    sorted.sort_by_key(ToString::to_string);
+    assert_ne!(sorted, listed);
+    sorted.sort();
+    assert_eq!(sorted, listed);
 }
 
 /// Whether values of this type may be sent to other threads and be shared by them.
@@ -160,16 +182,22 @@ fn a_store_is_opened_by_its_name() {
     let name = env::temp_dir().join(format!("dossier-open-{}", process::id()));
     Store::create(&name).expect("a new store");
     let again = Store::create(&name).expect_err("it is there");
-    assert_eq!(again.to_string(), "there is a file of this name already");
+    assert_eq!(again.to_string(), format!("{}: there is a file of this name already", name.display()));
+    assert_eq!((again.file(), matches!(again.cause(), FileCause::Exists)), (name.as_path(), true));
     let mut store = Store::open(&name).expect("it opens");
-    assert_eq!(format!("{store:?}"), format!("Store in {}", fs::canonicalize(&name).expect("a file").display()));
+    assert_eq!(format!("{store:?}"), format!("Store in {}", name.display()));
     store.insert(label("house"), &path("11:16"), Value::Measure(7200)).expect("an insert");
     assert!(store.save().expect("it is saved"));
     *store = Store::from(vec![0; 3]);
-    assert!(matches!(store.save(), Err(FileError::NoStore(3))));
+    let length = store.save().expect_err("another length");
+    assert_eq!(length.to_string(), format!("{}: not saved: the store has 3 bytes and not 41088", name.display()));
     drop(store);
     let read = Store::read(name.to_str().expect("a text")).expect("it is read");
     assert_eq!(lines(&read.view(label("house"), &Path::root()).expect("a view")).len(), 1);
     fs::remove_file(&name).expect("it goes");
-    assert!(matches!(Store::open(&name), Err(FileError::Open(_))));
+    assert!(matches!(Store::open(&name).expect_err("it is gone").cause(), FileCause::Open(_)));
+    example().save_as(&name).expect("a new store");
+    assert_eq!(Store::read(&name).expect("it is read"), example());
+    assert!(matches!(Store::from(&[0; 3]).save_as(&name).expect_err("no store").cause(), FileCause::Length(3)));
+    fs::remove_file(&name).expect("it goes");
 }

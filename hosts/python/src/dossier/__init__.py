@@ -68,10 +68,10 @@ from .answer import Answer, Grade, GradeAnswer, Mask, MigrationAnswer, Refusal, 
 from .file import NotAStore, StoreChanged, StoreFileError, StoreInUse, StoreNotSynced
 from .label import Compartment, Label, Level
 from .listing import Line, Unreadable, View
-from .path import Path, Step
+from .path import PATH_BYTES_MAX, STEP_BYTES, Path, Step
 from .raw import LISTING_BYTES_MAX, PARTITION_BYTES, STORE_BYTES, XML_BYTES_MAX
 from .store import Store, StoreFile
-from .value import Group, Kind, Measure, Text, Value
+from .value import MEASURE_BYTES, TEXT_BYTES_MAX, Group, Kind, Measure, Text, Value
 
 # The version, the same as in pyproject.toml.
 __version__ = "1.0.0"
@@ -87,14 +87,17 @@ __all__ = [
     "Label",
     "Level",
     "Line",
+    "MEASURE_BYTES",
     "Mask",
     "Measure",
     "MigrationAnswer",
     "NotAStore",
     "PARTITION_BYTES",
+    "PATH_BYTES_MAX",
     "Path",
     "Refusal",
     "Refused",
+    "STEP_BYTES",
     "STORE_BYTES",
     "Step",
     "Store",
@@ -103,6 +106,7 @@ __all__ = [
     "StoreFileError",
     "StoreInUse",
     "StoreNotSynced",
+    "TEXT_BYTES_MAX",
     "Text",
     "UnexpectedAnswer",
     "Unreadable",

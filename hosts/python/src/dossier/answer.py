@@ -5,6 +5,7 @@ from typing import Collection, Iterator, List, NamedTuple, Union
 
 from .given import whole
 from .label import Label, as_label
+from .words import formatted
 
 
 class Answer(NamedTuple):
@@ -78,7 +79,7 @@ class Mask(Collection[Label]):
 
     def labels(self) -> List[Label]:
         """The labels of these partitions, from low to high."""
-        return [Label.from_number(number) for number in range(32) if self.bits >> number & 1]
+        return [label for label in Label.all() if self.has(label)]
 
     def __contains__(self, label: object) -> bool:
         """Whether the partition of the label is one of them; TypeError if it is no label."""
@@ -123,9 +124,20 @@ class Refusal(IntEnum):
     NOT_OWN = 14
 
     @property
+    def number(self) -> int:
+        """Its number."""
+        return int(self)
+
+    @property
     def cause(self) -> str:
         """The cause in words, the same as in the other hosts."""
         return _CAUSES[self]
+
+    def __str__(self) -> str:
+        """Its number and its cause."""
+        return f"refused by {self.number}: {self.cause}"
+
+    __format__ = formatted
 
 
 # The cause of each refusal.
@@ -158,7 +170,7 @@ class Refused(Exception):
 
     def __str__(self) -> str:
         """The refusal's number and its cause."""
-        return f"refused by {self.answer.number}: {self.refusal.cause}"
+        return str(self.refusal)
 
 
 class UnexpectedAnswer(Exception):

@@ -12,7 +12,7 @@ import random
 import stat
 import string
 from io import FileIO
-from typing import Callable, Optional, Tuple, Union
+from typing import Callable, ClassVar, Optional, Tuple, Union
 
 from .given import said
 from .lent import STORE_BYTES
@@ -35,14 +35,20 @@ class StoreFileError(OSError):
     """Why a store in a file could not be opened or saved: the file's name, and what happened in words. What the system refuses
     comes as the OSError that it is, as FileNotFoundError or PermissionError."""
 
+    # The system's number of it, if there is one.
+    _number: ClassVar[Optional[int]] = None
+
     def __init__(self, filename: str, words: str) -> None:
-        super().__init__(words)
-        self.filename = filename
+        super().__init__(self._number, words, filename)
         self.words = words
 
     def __str__(self) -> str:
         """The file's name and what happened."""
         return f"{self.filename}: {self.words}"
+
+    def __repr__(self) -> str:
+        """What it is made of."""
+        return f"{type(self).__name__}({self.filename!r}, {self.words!r})"
 
     def __reduce__(self) -> Tuple[Callable[..., "StoreFileError"], Tuple[str, str]]:
         """What it is made of anew where it is unpickled or copied."""
@@ -51,6 +57,8 @@ class StoreFileError(OSError):
 
 class StoreInUse(StoreFileError, BlockingIOError):
     """Another holds the lock, and there was to be no waiting."""
+
+    _number = errno.EAGAIN
 
 
 class StoreChanged(StoreFileError):
@@ -73,13 +81,20 @@ def file_name(given: FileName) -> str:
         raise TypeError(f"the path is no name of a file but {said(given)}") from None
 
 
-def create(name: str) -> None:
-    """Makes a file with an empty store, its owner's alone. No file is overwritten: a new file beside it is filled and then
-    linked to the name, which the system refuses where there is one: FileExistsError."""
+def whole_store(buffer: memoryview) -> bytes:
+    """The bytes of a store that is to be saved. ValueError if it has another length."""
+    if buffer.nbytes != STORE_BYTES:
+        raise ValueError(f"not saved: the store has {buffer.nbytes} bytes and not {STORE_BYTES}")
+    return buffer.tobytes()
+
+
+def create(name: str, store: bytes) -> None:
+    """Makes a file with a store, its owner's alone. No file is overwritten: a new file beside it is filled and then linked to
+    the name, which the system refuses where there is one: FileExistsError."""
     try:
         with _new_beside(name) as new:
             try:
-                _fill(new, bytes(STORE_BYTES))
+                _fill(new, store)
                 os.link(str(new.name), name)
             finally:
                 _unlink(str(new.name))
@@ -126,8 +141,6 @@ class LockedFile:
         The new file has the old one's mode, group and access list and, where the system allows it, its owner."""
         if self._process != os.getpid():
             raise ValueError("the store is open in the process from which this one was forked: only that one saves it")
-        if len(store) != STORE_BYTES:
-            raise ValueError(f"not saved: the store has {len(store)} bytes and not {STORE_BYTES}")
         if store == self.store:
             return False
         try:
@@ -166,7 +179,7 @@ class LockedFile:
 
 def _open_locked(given: str, access: int, wait: bool) -> Tuple[str, FileIO, Optional[int]]:
     """Opens and locks a file; again where another file has got the name meanwhile. The name without links, the file, and the
-    number of the system's error if it may not be written."""
+    number of the system's error if it may not be written. Where it cannot be opened, the error has the name that was given."""
     if not isinstance(wait, bool):
         raise TypeError(f"wait is True or False and not {said(wait)}: there is no limit of time")
     while True:
@@ -174,7 +187,10 @@ def _open_locked(given: str, access: int, wait: bool) -> Tuple[str, FileIO, Opti
         if not is_regular:
             raise NotAStore(given, "it is no regular file")
         name = os.path.realpath(given)
-        file, denied = _open_as(name, access)
+        try:
+            file, denied = _open_as(name, access)
+        except OSError as error:
+            raise OSError(error.errno, error.strerror, given) from error
         try:
             _lock(file, access, wait, given)
             if _bears(given, file) and _bears(name, file):

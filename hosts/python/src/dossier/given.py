@@ -16,12 +16,12 @@ def said(given: object) -> str:
     return f"{'an' if name[0] in 'aeiouAEIOU' else 'a'} {name}"
 
 
-def whole(parameter: str, given: SupportsIndex) -> int:
-    """The whole number that was given. TypeError if it is none: nothing is cut."""
+def whole(parameter: str, given: SupportsIndex, hint: str = "") -> int:
+    """The whole number that was given. TypeError if it is none, with what to give instead: nothing is cut."""
     try:
-        return operator.index(given)
+        return int(operator.index(given))
     except TypeError:
-        raise TypeError(f"{parameter} is no whole number but {said(given)}") from None
+        raise TypeError(f"{parameter} is no whole number but {said(given)}{hint}") from None
 
 
 def string(parameter: str, given: str) -> str:

@@ -26,11 +26,18 @@ def lent(parameter: str, buffer: "ReadableBuffer") -> memoryview:
     try:
         view = memoryview(buffer)
     except TypeError:
-        raise TypeError(f"{parameter} is no buffer of bytes but {said(buffer)}") from None
+        raise TypeError(f"{parameter} is no buffer of bytes but {said(buffer)}{_hint(buffer)}") from None
     if not view.c_contiguous:
         view.release()
         raise ValueError(f"{parameter} is in pieces: its bytes do not stand one behind the other")
     return view
+
+
+def _hint(given: object) -> str:
+    """What to lend instead of a Store."""
+    from .store import Store  # not at the top, since that file imports this one
+
+    return ": store.buffer is one" if isinstance(given, Store) else ""
 
 
 def written(parameter: str, buffer: "ReadableBuffer") -> memoryview:

@@ -7,10 +7,24 @@ from .given import number_of
 from .label import Label
 from .path import Path
 from .value import Group, Kind, Measure, Text, Value
+from .words import formatted
+
+
+# How many bytes an error shows of what does not read.
+_SHOWN = 60
 
 
 class Unreadable(Exception):
-    """A line of a listing that does not read as one, or XML that is no text: the archive is of another version."""
+    """A listing or a line of one that does not read as one, or XML that is no text: the archive is of another version. What was
+    written is its one argument."""
+
+    def __init__(self, written: bytes) -> None:
+        super().__init__(written)
+        self.written = written
+
+    def __str__(self) -> str:
+        """That it does not read, and its first bytes."""
+        return f"unreadable listing or XML: {self.written[:_SHOWN]!r}{' ...' if len(self.written) > _SHOWN else ''}"
 
 
 class Line(NamedTuple):
@@ -88,6 +102,8 @@ class View(Sequence[Line]):
     def __str__(self) -> str:
         """The listing as a string."""
         return read_ascii(self.listing)
+
+    __format__ = formatted
 
     def __repr__(self) -> str:
         """How many lines it has, unread."""

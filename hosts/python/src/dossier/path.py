@@ -3,16 +3,48 @@ from typing import Iterable, NamedTuple, Optional, SupportsIndex, Tuple
 
 from .given import number_of, said, string, whole
 from .label import Label, as_label
+from .words import formatted
 
-# How many bytes a step has.
+# How many bytes a step has, and a path of six steps.
 STEP_BYTES = 3
+PATH_BYTES_MAX = 18
 
 
 class Step(NamedTuple):
-    """A step of a path: a name and a label."""
+    """A step of a path: a name and a label. Steps are in path order, that of a view's lines: by name from low to high, then by
+    level from high to low, then by compartments from low to high."""
 
     name: int
     label: Label
+
+    def _place(self) -> Tuple[int, int, int]:
+        """What stands lower comes before. TypeError if it has no label."""
+        label = as_label("the label of a step", self.label)
+        return self.name, -label.level, int(label.compartments)
+
+    def __lt__(self, other: Tuple[object, ...]) -> bool:
+        """Whether it comes before another."""
+        if not isinstance(other, Step):
+            return NotImplemented
+        return self._place() < other._place()
+
+    def __le__(self, other: Tuple[object, ...]) -> bool:
+        """Whether it comes before another or equals it."""
+        if not isinstance(other, Step):
+            return NotImplemented
+        return self._place() <= other._place()
+
+    def __gt__(self, other: Tuple[object, ...]) -> bool:
+        """Whether it comes behind another."""
+        if not isinstance(other, Step):
+            return NotImplemented
+        return self._place() > other._place()
+
+    def __ge__(self, other: Tuple[object, ...]) -> bool:
+        """Whether it comes behind another or equals it."""
+        if not isinstance(other, Step):
+            return NotImplemented
+        return self._place() >= other._place()
 
 
 # What the calls take as a path: a Path, or the steps one after the other, each a Step or a pair of a name and a label.
@@ -20,7 +52,8 @@ Steps = Iterable[Tuple[int, Label]]
 
 
 class Path(Tuple[Step, ...]):
-    """A path: a tuple of steps. A path that the calls do not allow can be made too; they refuse it by 4."""
+    """A path: a tuple of steps. A path that the calls do not allow can be made too; they refuse it by 4. Paths are in path
+    order, step by step; a prefix comes before its extensions."""
 
     __slots__ = ()
 
@@ -35,12 +68,12 @@ class Path(Tuple[Step, ...]):
 
     @classmethod
     def parse(cls, text: str) -> "Path":
-        """Reads a path as in a script, steps NAME:LABEL parted by /, a lone / for the root; a label may be in words too, as in
-        10:open/20:house+sizing. ValueError if it is none."""
+        """Reads a path as in a script, steps NAME:LABEL parted by /, a lone / for the root; it may begin with /, and a label
+        may be in words, as in /10:open/20:house+sizing. ValueError if it is none."""
         if string("the text of a path", text) == "/":
             return cls()
         try:
-            return cls(_read_step(step) for step in text.split("/"))
+            return cls(_read_step(step) for step in text.removeprefix("/").split("/"))
         except ValueError:
             raise ValueError(
                 f"{text!r} is no path: a path is / or steps NAME:LABEL parted by /, as 10:0/20:16, "
@@ -87,6 +120,8 @@ class Path(Tuple[Step, ...]):
     def __str__(self) -> str:
         """As in a script: steps NAME:LABEL parted by /, a lone / for the root."""
         return "/".join(f"{name}:{label}" for name, label in self) or "/"
+
+    __format__ = formatted
 
     def __repr__(self) -> str:
         """What makes it."""

@@ -4,6 +4,11 @@ from enum import IntEnum
 from typing import ClassVar, Union
 
 from .given import said, string, whole
+from .words import formatted
+
+# How many bytes a measure has, and the longest text.
+MEASURE_BYTES = 4
+TEXT_BYTES_MAX = 16
 
 
 class Kind(IntEnum):
@@ -12,6 +17,12 @@ class Kind(IntEnum):
     GROUP = 0
     MEASURE = 1
     TEXT = 2
+
+    def __str__(self) -> str:
+        """Its name, as in measure."""
+        return self.name.lower()
+
+    __format__ = formatted
 
 
 @dataclass(frozen=True)
@@ -41,7 +52,7 @@ class Measure:
 
     def to_bytes(self) -> bytes:
         """Four bytes, lowest first."""
-        return self.hundredths.to_bytes(4, "little", signed=True)
+        return self.hundredths.to_bytes(MEASURE_BYTES, "little", signed=True)
 
 
 @dataclass(frozen=True)
@@ -63,6 +74,9 @@ class Text:
 # What an element holds.
 Value = Union[Group, Measure, Text]
 
+# A value of each kind, as it is made.
+_MADE = {Kind.GROUP: "Group()", Kind.MEASURE: "Measure(850)", Kind.TEXT: "Text('SLEEVE')"}
+
 
 def encoded(text: str) -> bytes:
     """The bytes of a string, also of one that no file could hold: the library refuses all that is not ASCII."""
@@ -74,10 +88,12 @@ def as_value(parameter: str, given: Value) -> Value:
     if isinstance(given, (Group, Measure, Text)):
         return given
     hint = "Group(), Measure(850) and Text('SLEEVE') make one"
-    if isinstance(given, type) and issubclass(given, Group):
-        hint = "Group() makes one"
+    if isinstance(given, Kind):
+        hint = f"{_MADE[given]} makes one"
+    elif isinstance(given, type) and issubclass(given, (Group, Measure, Text)):
+        hint = f"{_MADE[given.kind]} makes one"
     elif isinstance(given, int):
-        hint = f"Measure({given}) makes one"
+        hint = f"Measure({int(given)}) makes one"
     elif isinstance(given, str):
         hint = f"Text({given!r}) makes one"
     raise TypeError(f"{parameter} is no Group, Measure or Text but {said(given)}: {hint}")
