@@ -221,9 +221,20 @@ static void test_lengths(void)
     check("4, seven steps", answer.number == 4);
 }
 
+/* A label is level x 8 + compartments, whatever stands for them. */
+static void test_labels(void)
+{
+    check("low levels", DOSSIER_LEVEL_OPEN == 0 && DOSSIER_LEVEL_TRADE == 1);
+    check("high levels", DOSSIER_LEVEL_HOUSE == 2 && DOSSIER_LEVEL_SEALED == 3);
+    check("compartments", DOSSIER_COMPARTMENT_SIZING == 1 && DOSSIER_COMPARTMENT_FABRIC == 2 && DOSSIER_COMPARTMENT_COST == 4);
+    check("a label", DOSSIER_LABEL(DOSSIER_LEVEL_TRADE, DOSSIER_COMPARTMENT_FABRIC + DOSSIER_COMPARTMENT_COST) == 14);
+    check("a label of sums", DOSSIER_LABEL(1 + 1, 1 | 2) * 2 == 38);
+}
+
 int main(void)
 {
     test_version();
+    test_labels();
     test_refusals();
     test_steps();
     test_steps_read();

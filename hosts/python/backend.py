@@ -110,7 +110,10 @@ def _archive() -> Path:
 
 def _library() -> bytes:
     """The shared object of all that is in the archive."""
-    compiler = shlex.split(os.environ.get("CC", "")) or ["gcc"]
+    try:
+        compiler = shlex.split(os.environ.get("CC", "")) or ["gcc"]
+    except ValueError as error:
+        sys.exit(f"dossier cannot be built: CC does not read as a command: {error}")
     with tempfile.TemporaryDirectory() as folder:
         made = Path(folder) / "libdossier_c.so"
         command = [*compiler, "-shared", "-o", str(made), "-Wl,--whole-archive", str(_archive()), "-Wl,--no-whole-archive"]
@@ -122,7 +125,8 @@ def _library() -> bytes:
                 "library, or set CC to another C compiler"
             )
         if done.returncode != 0:
-            sys.exit(f"dossier cannot be built: {compiler[0]} failed: {done.stdout.decode(errors='replace').strip()}")
+            words = done.stdout.decode(errors="replace").strip()
+            sys.exit(f"dossier cannot be built: {compiler[0]} failed with status {done.returncode}: {words}")
         return made.read_bytes()
 
 

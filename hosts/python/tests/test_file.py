@@ -16,6 +16,7 @@ import subprocess
 import sys
 import tempfile
 import threading
+import time
 import unittest
 from unittest import mock
 
@@ -64,6 +65,16 @@ def looking(file):
     """Opens a file and changes nothing: the names of its elements."""
     with Store.open(file) as store:
         return names_in(store)
+
+
+# A program that waits for the lock of a file, and says so.
+WAITING = """
+import sys
+from dossier import Store
+print("waits", flush=True)
+Store.open(sys.argv[1]).close()
+print("has it")
+"""
 
 
 def forked(function, user=None):
@@ -388,12 +399,30 @@ class Locks(FileTest):
                 forked(store.save)
             forked(store.close)
             self.assertRaises(StoreInUse, Store.open, self.file, wait=False)
-            self.assertTrue(store.save())
             sleeping = forks.Process(target=signal.pause)
             sleeping.start()
+            self.addCleanup(sleeping.join)
+            self.addCleanup(sleeping.kill)
+            waiting = subprocess.Popen([sys.executable, "-c", WAITING, str(self.file)], stdout=subprocess.PIPE)
+            self.addCleanup(waiting.communicate)
+            self.addCleanup(waiting.kill)
+            self.assertEqual(waiting.stdout.readline(), b"waits\n")
+            time.sleep(0.2)
+            self.assertTrue(store.save())
+        self.assertEqual(waiting.communicate(timeout=20)[0], b"has it\n")
         Store.open(self.file, wait=False).close()
-        sleeping.kill()
-        sleeping.join()
+
+    def test_forked_process_that_changes_nothing(self):
+        with Store.open(self.file) as store:
+            self.assertIs(forked(store.save), False)
+
+    def test_errors_of_the_system_have_the_name(self):
+        error = OSError(errno.ENOLCK, "No locks available")
+        for function, words in ("fcntl.flock", "the file cannot be locked: No locks available"), ("os.pread", error.strerror):
+            for call in Store.open, Store.read:
+                with mock.patch(function, side_effect=error), self.assertRaises(OSError) as raised:
+                    call(self.file)
+                self.assertEqual((raised.exception.filename, raised.exception.strerror), (str(self.file), words))
 
     def test_started_program_has_no_file_of_it(self):
         with Store.open(self.file), subprocess.Popen(["sleep", "9"], close_fds=False) as program:

@@ -177,7 +177,7 @@ class Installed(PackageTest):
         compiler = self.folder / "compiler"
         compiler.write_text("#!/bin/sh\necho no such option >&2\nexit 1\n")
         compiler.chmod(0o755)
-        self.assert_not_built(f"dossier cannot be built: {compiler} failed: no such option", CC=str(compiler))
+        self.assert_not_built(f"dossier cannot be built: {compiler} failed with status 1: no such option", CC=str(compiler))
 
     def test_no_archive(self):
         words = f"dossier cannot be built: {self.folder}/libdossier_c.a is missing: run `tools/build --archive dossier_c` "

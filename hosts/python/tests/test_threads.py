@@ -1,10 +1,13 @@
 """What is promised of threads: calls on one Store are carried out whole, one after the other; different Stores run at the same
 time, without the interpreter's lock; and calls on one buffer that nobody orders do nothing worse than to lose changes."""
+import os
+import signal
 import threading
 import time
 import unittest
+from unittest import mock
 
-from dossier import Group, Measure, Path, Refused, Store, raw
+from dossier import Group, Measure, MigrationAnswer, Path, Refused, Store, Text, raw
 from support import GROUP, label, sent_group
 
 # How many threads insert.
@@ -88,11 +91,57 @@ class OneStore(unittest.TestCase):
         for call in calls:
             ended = threading.Event()
             thread = threading.Thread(target=lambda: (together([call]), ended.set()))
-            with store._lock:
+            with store._turns.taken():
                 thread.start()
                 self.assertFalse(ended.wait(0.02))
             thread.join()
             self.assertTrue(ended.is_set())
+
+    def test_call_within_a_call(self):
+        store, steps = Store(), Path.parse("10:0")
+        with mock.patch("dossier.raw.migrate", side_effect=lambda buffer: store.view(label(0))):
+            self.assertRaisesRegex(RuntimeError, "is within a call on this store already", store.migrate)
+
+        class Text17(Text):
+            """A text that looks at the store when it is asked for its bytes."""
+
+            def to_bytes(self):
+                """The text's bytes."""
+                return store.view(label(0)).listing[:4]
+
+        class Sizes:
+            """A number of sizes that looks at the store."""
+
+            def __index__(self):
+                """How many lines 0 sees."""
+                return len(store.view(label(0)))
+
+        store.insert(label(0), steps, Text17("-"))
+        self.assertEqual(store.view(label(0))[0].value, Text("VIEW"))
+        store.update(label(0), steps, Measure(7))
+        self.assertEqual(store.grade(label(0), steps, steps, Sizes()), (0, 0))
+
+    def test_forked_within_a_call(self):
+        store, is_within, may_end = Store(), threading.Event(), threading.Event()
+
+        def waiting(buffer):
+            """Stands for a call that takes long."""
+            is_within.set()
+            may_end.wait()
+            return MigrationAnswer(0, 0)
+
+        with mock.patch("dossier.raw.migrate", side_effect=waiting):
+            thread = threading.Thread(target=store.migrate)
+            thread.start()
+            is_within.wait()
+            child = os.fork()
+            if child == 0:
+                signal.alarm(20)
+                os._exit(len(store.view(label(0))))
+            self.addCleanup(thread.join)
+            self.addCleanup(may_end.set)
+            self.assertEqual(os.waitpid(child, 0), (child, 0))
+            self.assertFalse(may_end.is_set())
 
 
 class DifferentStores(unittest.TestCase):

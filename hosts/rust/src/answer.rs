@@ -388,7 +388,8 @@ mod tests {
         assert_eq!(numbers(544), [5, 9]);
         assert_eq!(numbers(0x8000_0001), [0, 31]);
         assert_eq!(numbers(u32::MAX), (0..32).collect::<Vec<_>>());
-        assert_eq!((Mask(544).labels().len(), u32::from(Mask(544))), (2, 544));
+        assert_eq!([0, 544, u32::MAX].map(|mask| Mask(mask).labels().len()), [0, 2, 32]);
+        assert_eq!(u32::from(Mask(544)), 544);
         assert_eq!((Mask(544).is_empty(), Mask(0).is_empty()), (false, true));
         let has = |number| Label::from_number(number).is_some_and(|label| Mask(544).has(label));
         assert_eq!((0..32).filter(|number| has(*number)).collect::<Vec<_>>(), [5, 9]);

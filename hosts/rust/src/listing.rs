@@ -262,6 +262,8 @@ mod tests {
             "1\t10\t32\tP\tG\t-",
             "1\t65536\t0\tP\tG\t-",
             "1\t10\t0\tR\tG\t-",
+            "1\t10\t0\tR\t-\tx",
+            "1\t10\t0\tP\tG\tx",
             "1\t10\t0\tP\tM\tx",
             "1\t10\t0\tP\tG\t-\t7",
             "0\t10\t0\tP\tG\t-",

@@ -2,12 +2,13 @@
 
 use std::env;
 use std::fs::{self, File};
-use std::os::unix::fs::{MetadataExt, PermissionsExt};
+use std::os::unix::fs::{symlink, MetadataExt, PermissionsExt};
 use std::path::PathBuf;
 use std::process;
 use std::sync::atomic::{AtomicU32, Ordering};
 use std::sync::mpsc;
 use std::thread;
+use std::time::Duration;
 
 use dossier::file::{read, StoreFile, Wait};
 use dossier::{FileCause, FileError, Label, Path, Store, Value, STORE_BYTES};
@@ -115,7 +116,7 @@ fn who_waits_goes_on_with_what_was_saved() {
             let (store, begun) = (store.clone(), begun.clone());
             thread::spawn(move || {
                 begun.send(()).expect("the test waits");
-                let mut file = StoreFile::open(&store, Wait::Yes).expect("it opens");
+                let mut file = Store::open(&store).expect("it opens");
                 insert(&mut file, name);
                 file.save().expect("it is saved")
             })
@@ -135,7 +136,8 @@ fn who_waits_goes_on_with_what_was_saved() {
 
 #[test]
 fn what_another_saved_meanwhile_stays() {
-    let changes: [fn(&PathBuf); 3] = [
+    let changes: [fn(&PathBuf); 4] = [
+        |store| fs::write(store, vec![0; STORE_BYTES + 1]).expect("it grows"),
         |store| fs::write(store, vec![7; STORE_BYTES]).expect("it is written in place"),
         |store| {
             fs::write(store.with_extension("new"), vec![0; STORE_BYTES]).expect("a new file");
@@ -153,6 +155,52 @@ fn what_another_saved_meanwhile_stays() {
         assert_eq!(fs::read(&store).ok(), left);
         assert_eq!(folder.names().len(), usize::from(left.is_some()));
     }
+}
+
+#[test]
+fn who_reads_waits() {
+    let (_folder, store) = Folder::with_store();
+    let mut file = StoreFile::open(&store, Wait::No).expect("it opens");
+    let (begun, has_begun) = mpsc::channel();
+    let waiting = thread::spawn({
+        let store = store.clone();
+        move || {
+            begun.send(()).expect("the test waits");
+            Store::read(store).expect("it is read")
+        }
+    });
+    has_begun.recv().expect("it begins");
+    thread::sleep(Duration::from_millis(50));
+    insert(&mut file, 1);
+    file.save().expect("it is saved");
+    let saved = file.clone();
+    drop(file);
+    assert_eq!(waiting.join().expect("it ends"), saved);
+}
+
+#[test]
+fn who_waits_behind_a_link_goes_on_where_it_leads_then() {
+    let (folder, store) = Folder::with_store();
+    let (other, link) = (folder.0.join("other"), folder.0.join("link"));
+    let mut changed = Store::empty();
+    changed.insert(open(), &Path::root().child(7, open()), Value::Group).expect("an insert");
+    changed.save_as(&other).expect("another store");
+    symlink(&store, &link).expect("a link");
+    let held = StoreFile::open(&store, Wait::No).expect("it opens");
+    let (begun, has_begun) = mpsc::channel();
+    let waiting = thread::spawn({
+        let link = link.clone();
+        move || {
+            begun.send(()).expect("the test waits");
+            Store::open(link).expect("it opens").clone()
+        }
+    });
+    has_begun.recv().expect("it begins");
+    thread::sleep(Duration::from_millis(50));
+    fs::remove_file(&link).expect("the link goes");
+    symlink(&other, &link).expect("another link");
+    drop(held);
+    assert_eq!(waiting.join().expect("it ends"), changed);
 }
 
 #[test]

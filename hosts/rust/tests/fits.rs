@@ -5,8 +5,8 @@ use std::error;
 use std::{env, fs, process};
 
 use dossier::{
-    Error, FileCause, FileError, Label, Labels, Line, Mark, Mask, NoLabel, NoPath, Path, Refusal, Store, StoreFile, Value, View,
-    STORE_BYTES,
+    Answer, Compartment, Error, FileCause, FileError, Kind, Label, Labels, Level, Line, Mark, Mask, NoLabel, NoPath, Path,
+    Refusal, Store, StoreFile, Value, View, STORE_BYTES,
 };
 
 /// The label of a text.
@@ -92,7 +92,7 @@ fn a_store_is_over_any_bytes_and_gives_them_back() {
     let mut changed = bytes.clone();
     Store::from(&mut changed[..]).delete(label("house"), &path("11:16")).expect("a delete");
     assert!(changed != bytes);
-    for read_only in [Store::from(&bytes[..]), Store::from(bytes.as_slice())] {
+    for read_only in [Store::from(&bytes[..]), Store::from(&array[..])] {
         assert_eq!(read_only.view(label("house"), &Path::root()).expect("a view").to_string(), LISTING);
         assert_eq!(read_only.grade(label("house"), &path("11:16"), &path("11:16"), 3), Err(Refusal::NoMeasure.into()));
         assert_eq!(read_only.as_ref(), read_only.into_bytes());
@@ -116,6 +116,8 @@ fn labels_and_paths_are_read_and_shown() {
     assert_eq!(Label::try_from(17), Ok(label("house+sizing")));
     assert_eq!(Label::try_from(32), "32".parse());
     assert_eq!((label("17").to_string(), label("17").words(), u32::from(label("17"))), ("17".into(), "house+sizing".into(), 17));
+    assert_eq!(format!("{:>3}|{:<7}|{:^8}|", label("17"), Level::House, Compartment::Cost), " 17|house  |  cost  |");
+    assert_eq!([Kind::Group, Kind::Measure, Kind::Text].map(|kind| format!("{kind:>8}")), ["   group", " measure", "    text"]);
     assert_eq!(label("29").compartments().map(|one| one.to_string()).collect::<Vec<_>>(), ["sizing", "cost"]);
     assert_eq!(path("10:open/20:house+sizing").to_string(), "10:0/20:17");
     assert_eq!(path("/10:open/20:house+sizing"), path("10:0/20:17"));
@@ -175,6 +177,9 @@ fn errors_are_errors() {
     assert_eq!((refused.to_string().as_str(), refused.refusal()), (words, Some(Refusal::Absent)));
     assert_eq!(Error::Unreadable.refusal(), None);
     assert!(error::Error::source(&refused).is_none());
+    assert_eq!(Error::Unreadable.to_string(), "a line of the listing, or the XML, does not read");
+    let unexpected = Error::Unexpected(Answer { number: 7, count: 40 });
+    assert_eq!(unexpected.to_string(), "unexpected answer: number 7, count 40");
 }
 
 #[test]

@@ -15,8 +15,8 @@ order, views too. Calls on different Stores over different buffers run at the sa
 calls of dossier.raw, know nothing of each other: their caller sees to it that none runs while another writes the buffer, else a
 change may be lost, or a store be seen that is half changed, and nothing worse. The library runs without the interpreter's
 global lock, on copies that nobody else can reach, and the order of a Store's calls comes from a lock of its own; that was
-tested on builds of CPython that have a global lock. A handler of signals makes no call on a Store that the thread which it
-interrupts may be using: it would wait for ever.
+tested on builds of CPython that have a global lock. A call within a call of the same thread on the same Store, such as a
+finalizer or a handler of signals may make, raises RuntimeError. A forked process has the Store as it was between two calls.
 
 A subject of label 0 inserts a style and a subject of label 16 a measure under it; 0 deletes the style, and 16 still sees it,
 marked as removed, above his measure:

@@ -139,10 +139,10 @@ class LockedFile:
     def save(self, store: bytes) -> bool:
         """Saves a store by a new file, synced and renamed, if a byte has changed since it was read or saved: whether it has.
         The new file has the old one's mode, group and access list and, where the system allows it, its owner."""
-        if self._process != os.getpid():
-            raise ValueError("the store is open in the process from which this one was forked: only that one saves it")
         if store == self.store:
             return False
+        if self._process != os.getpid():
+            raise ValueError("the store is open in the process from which this one was forked: only that one saves it")
         try:
             if self._denied is not None:
                 raise OSError(self._denied, os.strerror(self._denied))
@@ -151,7 +151,7 @@ class LockedFile:
             raise
         except OSError as error:
             raise _not_saved(error, self._given) from error
-        self._file.close()
+        self.close()
         self._file, self.store = new, store
         _sync_folder(self._name, self._given)
         return True
@@ -220,6 +220,8 @@ def _lock(file: FileIO, access: int, wait: bool, given: str) -> None:
         fcntl.flock(file, access if wait else access | fcntl.LOCK_NB)
     except BlockingIOError:
         raise StoreInUse(given, "the file is in use") from None
+    except OSError as error:
+        raise OSError(error.errno, f"the file cannot be locked: {error.strerror}", given) from error
 
 
 def _bears(name: str, file: FileIO) -> bool:
@@ -241,7 +243,10 @@ def _contents(file: FileIO) -> bytes:
 
 def _read_store(file: FileIO, given: str) -> bytes:
     """The bytes of a file that has those of a store."""
-    contents = _contents(file)
+    try:
+        contents = _contents(file)
+    except OSError as error:
+        raise OSError(error.errno, error.strerror, given) from error
     if len(contents) != STORE_BYTES:
         length = max(os.fstat(file.fileno()).st_size, len(contents))
         raise NotAStore(given, f"it is no store: it has {length} bytes, a store has {STORE_BYTES}")

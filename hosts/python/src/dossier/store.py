@@ -1,6 +1,5 @@
 """The store and its typed calls, and a store that is open in a file."""
 import os
-import threading
 from types import TracebackType
 from typing import TYPE_CHECKING, Any, Callable, Optional, SupportsIndex, Tuple, Type
 
@@ -8,10 +7,11 @@ from . import file, raw
 from .answer import Answer, Grade, Mask
 from .given import said, string
 from .label import Label, as_label
-from .lent import lent, look, look_into
+from .lent import lent, look, look_into, word
 from .library import library
 from .listing import View, read_ascii
 from .path import Path, Steps, as_path
+from .turns import Turns
 from .value import Value, as_value, encoded
 
 if TYPE_CHECKING:
@@ -34,7 +34,7 @@ class Store:
             raise TypeError(f"the buffer is no buffer of bytes but {said(buffer)}: {hint}")
         self._buffer: Any = bytearray(raw.STORE_BYTES) if buffer is None else buffer
         lent("the buffer", self._buffer).release()
-        self._lock = threading.Lock()
+        self._turns = Turns()
 
     @staticmethod
     def open(path: file.FileName, wait: bool = True) -> "StoreFile":
@@ -61,7 +61,7 @@ class Store:
         """Makes a file with this store as it is now, its owner's alone. FileExistsError if there is a file of this name,
         ValueError if the store has another length than STORE_BYTES."""
         name = file.file_name(path)
-        with self._lock, lent("the buffer", self.buffer) as whole:
+        with self._turns.taken(), lent("the buffer", self.buffer) as whole:
             store = file.whole_store(whole)
         file.create(name, store)
 
@@ -111,7 +111,7 @@ class Store:
         Refused by 1, 3, 4, 6 or 7.
         """
         number, steps = as_label("the subject", subject).number, as_path("the path", path).to_bytes()
-        with self._lock:
+        with self._turns.taken():
             return raw.delete(self.buffer, number, steps).outcome()
 
     def grade(self, subject: Label, base: Steps, top: Steps, n: SupportsIndex) -> Grade:
@@ -120,10 +120,10 @@ class Store:
 
         Refused by 1, 3, 4, 11, 7 or 12, in this order.
         """
-        number = as_label("the subject", subject).number
+        number, sizes = as_label("the subject", subject).number, word("the number of sizes", n)
         paths = as_path("the base", base).to_bytes(), as_path("the top", top).to_bytes()
-        with self._lock:
-            return raw.grade(self.buffer, number, *paths, n).outcome()
+        with self._turns.taken():
+            return raw.grade(self.buffer, number, *paths, sizes).outcome()
 
     def insert_xml(self, subject: Label, parent: Steps, text: str) -> int:
         """XML intake: takes in a style, sent as one XML element as view_xml writes it, without the dossier tag and with
@@ -134,7 +134,7 @@ class Store:
         """
         number, steps = as_label("the subject", subject).number, as_path("the parent", parent).to_bytes()
         sent = encoded(string("the text", text))
-        with self._lock:
+        with self._turns.taken():
             return raw.insert_xml(self.buffer, number, steps, sent).outcome()
 
     def migrate(self) -> Mask:
@@ -145,14 +145,14 @@ class Store:
 
         Refused by 1 alone.
         """
-        with self._lock:
+        with self._turns.taken():
             return raw.migrate(self.buffer).outcome()
 
     def _look(self, function: Any, most: int, subject: Label, path: Path, output: "Optional[WriteableBuffer]") -> bytes:
         """What a call that writes an output has written."""
-        number = as_label("the subject", subject).number
-        with self._lock:
-            arguments = function, most, self.buffer, number, path.to_bytes()
+        number, steps = as_label("the subject", subject).number, path.to_bytes()
+        with self._turns.taken():
+            arguments = function, most, self.buffer, number, steps
             exported, contents = look(*arguments) if output is None else look_into(*arguments, output)
         Answer(exported.number, exported.count).outcome()
         return contents
@@ -161,12 +161,13 @@ class Store:
         """The count of a call that brings a value."""
         number, steps = as_label("the subject", subject).number, as_path("the path", path).to_bytes()
         given = as_value("the value", value)
-        with self._lock:
-            return call(self.buffer, number, steps, given.kind, given.to_bytes()).outcome()
+        kind, contents = given.kind, given.to_bytes()
+        with self._turns.taken():
+            return call(self.buffer, number, steps, kind, contents).outcome()
 
     def __bytes__(self) -> bytes:
         """The store's bytes."""
-        with self._lock, lent("the buffer", self.buffer) as whole:
+        with self._turns.taken(), lent("the buffer", self.buffer) as whole:
             return whole.tobytes()
 
     def __repr__(self) -> str:
@@ -218,12 +219,12 @@ class StoreFile(Store):
         """Saves the store if a byte has changed since it was opened or saved: whether it has. StoreChanged, and nothing is
         saved, if the file is no longer the one that was read; StoreNotSynced if it is saved and the folder could not be
         synced."""
-        with self._lock, lent("the buffer", self.buffer) as whole:
+        with self._turns.taken(), lent("the buffer", self.buffer) as whole:
             return self._file.save(file.whole_store(whole))
 
     def close(self) -> None:
         """Lets the lock go, without saving. Every call behind it raises ValueError, but for another close."""
-        with self._lock:
+        with self._turns.taken():
             self._file.close()
 
     def __enter__(self) -> "StoreFile":
