@@ -98,7 +98,8 @@ impl StoreFile {
     ///
     /// # Errors
     ///
-    /// Where the file is no longer the one that was read, or the new one cannot be made: the old store stays then.
+    /// Where the file is no longer the one that was read, or the new one cannot be made: the old store stays then. By
+    /// [`FileCause::NotSynced`] where the new store is there and its name may not survive a loss of power.
     pub fn save(&mut self) -> Result<bool, FileError> {
         self.save_changes().map_err(|cause| FileError::new(&self.path, cause))
     }
