@@ -92,22 +92,13 @@ def word(parameter: str, given: SupportsIndex) -> int:
 
 
 def change(function: Any, store: memoryview, *rest: Any) -> Any:
-    """Has a call of a subject, the number that comes first, change a store: what it returns. Where it is done, the subject's
-    partition is copied back: no call changes another."""
+    """Has a call change a store: what it returns. Where it is done, what it may have changed is copied back: of a call of a
+    subject, whose number comes first, the subject's partition; of the owner's, which has no more to it, the store."""
     copy = store_copied(store)
     exported = function(copy, len(copy), *rest)
     if exported.number == 0:
-        at = rest[0] * PARTITION_BYTES
-        put(store, at, bytes(memoryview(copy)[at : at + PARTITION_BYTES]))
-    return exported
-
-
-def change_all(function: Any, store: memoryview) -> Any:
-    """Has a call of the owner change a store: what it returns. Where it is done, the store is copied back."""
-    copy = store_copied(store)
-    exported = function(copy, len(copy))
-    if exported.number == 0:
-        put(store, 0, bytes(copy))
+        at, length = (rest[0] * PARTITION_BYTES, PARTITION_BYTES) if rest else (0, STORE_BYTES)
+        put(store, at, bytes(memoryview(copy)[at : at + length]))
     return exported
 
 

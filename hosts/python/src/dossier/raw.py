@@ -8,13 +8,13 @@ on copies.
 Threads: a call may run beside any other. It runs without the interpreter's lock, on copies of what it was lent, so that it
 reads and writes no memory out of bounds, whatever others do to the buffers meanwhile. But it has no lock: whoever shares a
 buffer sees to it that nothing else uses it while a call writes it; else a change may be lost, or a store be seen that is half
-changed. A Store sees to that. What a call writes comes back once the library is done: of a store the subject's partition,
-of an output the bytes that the answer counts.
+changed. A Store sees to that. What a call writes comes back once the library is done: of a store the subject's partition
+(all of it for the migration), of an output the bytes that the answer counts.
 """
 from typing import TYPE_CHECKING, Any, SupportsIndex
 
 from .answer import Answer, GradeAnswer, MigrationAnswer
-from .lent import PARTITION_BYTES, STORE_BYTES, apart, change, change_all, copied, lent, look_into, store_copied, word, written
+from .lent import PARTITION_BYTES, STORE_BYTES, apart, change, copied, lent, look_into, store_copied, word, written
 from .library import library
 
 if TYPE_CHECKING:
@@ -102,7 +102,7 @@ def migrate(store: "WriteableBuffer") -> MigrationAnswer:
     """The migration of a store that was written before the path order changed: each partition that is well formed in the order
     of before gets its elements in the order of now, each other keeps its bytes, and its bit in the mask is set."""
     with written("the store", store) as whole:
-        exported = change_all(library.dossier_migrate, whole)
+        exported = change(library.dossier_migrate, whole)
         return MigrationAnswer(exported.number, exported.mask)
 
 
