@@ -1,6 +1,6 @@
 -- The lines of an input that is cut in two, and where the first line ends.
 use mathlib.Core.Path.{◌≡◌, refl, sym, ap, ◌∙◌}
-use mathlib.Core.Bool.{Bool, false, not}
+use mathlib.Core.Bool.{Bool, false, not, true}
 use mathlib.Core.List.{List, [], ◌∷◌, ◌++◌, append-nil}
 use Prim.Native.Nat.{ℕ, zero, suc, ◌+◌, ◌-◌, ◌≤◌, ◌<◌, min}
 use native.Mathlib.Omega.{arith}
@@ -8,7 +8,7 @@ use native.Mathlib.Numerals.{add-one}
 use lib.ListN.{length, take, drop, get_or, length-drop, drop_of_length-le}
 use lib.Seq.{append_snoc, drop-cons, drop-drop}
 use lib.Dec.{T, eqb}
-use borrow.Author.Tests.{ne_eqb, not-false}
+use borrow.Author.Tests.{ne_eqb}
 use Rattle.model.specs.Lists.{all}
 use Rattle.model.specs.Script.{lines_from}
 use Rattle.model.proofs.Bools.{and_l, and_r, decide, is_true, is_false}
@@ -65,11 +65,11 @@ past (suc n) (x ∷ l) h t =
 
 module _ {s : List ℕ} {i : ℕ} (inv : NotBefore s i) where
   -- a block that lacks it
-  pub seek-block : {n z : ℕ} {b : Bool} → n ≤ length s - i → z ≡ n → b ≡ lacks_end (take z (drop i s)) → not b ≡ false → NotBefore s (i + n)
+  pub seek-block : {n z : ℕ} {b : Bool} → n ≤ length s - i → z ≡ n → b ≡ lacks_end (take z (drop i s)) → b ≡ true → NotBefore s (i + n)
   seek-block {n} {z} {b} h e f g =
       let w : i ≤ length s = inv.within in
       let l : length (drop i s) ≡ length s - i = length-drop i s in
-      let t : T (lacks_end (take z (drop i s))) = rw (← f, not-false b g) tt in
+      let t : T (lacks_end (take z (drop i s))) = rw (← f, g) tt in
       let p : end_at (drop i s) ≡ z + end_at (drop z (drop i s)) = past z (drop i s) (omega arith) t in
       let d : drop z (drop i s) ≡ drop (i + n) s = drop-drop z i s ∙ ap (λ (k : ℕ). drop (i + k) s) e in
       let q : end_at (drop z (drop i s)) ≡ end_at (drop (i + n) s) = ap end_at d in

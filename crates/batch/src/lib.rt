@@ -1,4 +1,6 @@
 // An input taken in by pieces, its lines carried out on a store.
+#![tactic(auto)]
+
 ghost use Rattle.std.specs.Prelude.{◌≡◌, [], ◌∷◌, ◌++◌, ◌+◌, ◌≤◌, length, take, drop};
 ghost use Rattle.carry.specs.Lines.{Carried};
 ghost use Rattle.batch.specs.Pieces.{last, end_at, lacks_end, NotBefore, kept_size, Kept, TakenIn};

@@ -41,13 +41,13 @@ module _ {v : Value} (l : List ℕ) where
   pub measure-brought : {m : ℕ} → v ≡ Measure m → (b : List ℕ) {r : List ℕ} → b ≡ word_bytes m ++ r → content_of (value_of v l) ≡ record { kind = 1; value = take 4 b }
   measure-brought e b f = ap (λ (u : Value). content_of (value_of u l)) e ∙ ap (λ (t : List ℕ). record { kind = 1; value = take 4 t }) (sym f)
 
-  pub text-brought : {n : ℕ} → v ≡ Text n → {at : ℕ} → at ≡ length l - n → (b : List ℕ) {t y : List ℕ} → t ≡ drop at l → y ≡ take (length t) t ++ drop (length t) b
+  pub text-brought : {n : ℕ} → v ≡ Text n → {at : ℕ} → at ≡ length l - n → (b : List ℕ) {t y : List ℕ} → t ≡ drop at l → y ≡ t ++ drop (length t) b
       → content_of (value_of v l) ≡ record { kind = 2; value = take (length t) y }
   text-brought {n} e {at} f b {t} {y} g h =
       ap (λ (u : Value). content_of (value_of u l)) e
       ∙ ap (λ (s : List ℕ). record { kind = 2; value = s })
       (sym
-      (ap (take (length t)) (h ∙ ap (λ (s : List ℕ). s ++ drop (length t) b) (take_all (length t) t (omega arith)))
+      (ap (take (length t)) h
       ∙ take_at t (drop (length t) b) (length t) refl
       ∙ g
       ∙ ap (λ (k : ℕ). drop k l) f))

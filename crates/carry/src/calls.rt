@@ -49,7 +49,7 @@ fn bring(v: Value, line: &[u8], bytes: &mut [u8]) -> Content
         Value::Text(n) => {
             let at = text_start(line, n);
             let text = &line[at..];
-            bytes::copy(text, bytes);
+            bytes[..text.len()].copy_from_slice(text);
             Content {
                 kind: 2,
                 size: text.len(),

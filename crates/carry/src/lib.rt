@@ -1,4 +1,6 @@
 // One script line carried out on a store: its listing, if any, and its A line.
+#![tactic(auto)]
+
 mod calls;
 
 ghost use Rattle.std.specs.Prelude.{[], ◌∷◌, ◌≤◌, length};

@@ -1,10 +1,8 @@
 -- The sizes of the buffers, from turn to turn.
 use mathlib.Core.Path.{◌≡◌}
 use mathlib.Core.List.{List}
-use Prim.Native.Nat.{ℕ, ◌-◌, ◌≤◌}
-use native.Mathlib.Omega.{arith}
-use lib.ListN.{length, take, drop, length-drop}
-use lib.Seq.{length-take-le}
+use Prim.Native.Nat.{ℕ, ◌≤◌}
+use lib.ListN.{length}
 use Rattle.batch.specs.Pieces.{kept_size}
 
 -- the buffers have the sizes they had; n bytes of the line are kept, and to bytes of the output stand there
@@ -15,7 +13,3 @@ pub record Sized (store₀ path₀ store line path out : List ℕ) (n to : ℕ) 
   pub out-size : length out ≡ 65536
   pub kept-few : n ≤ kept_size
   pub out-few : to ≤ 65536
-
--- what is lent from a place on
-pub part-size : (o : List ℕ) (a : ℕ) → a ≤ length o → length (take (length o - a) (drop a o)) ≡ length o - a
-part-size o a h = let d : length (drop a o) ≡ length o - a = length-drop a o in length-take-le (length o - a) (drop a o) (omega arith)

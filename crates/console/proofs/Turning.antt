@@ -2,10 +2,10 @@
 use mathlib.Core.Path.{◌≡◌, refl, sym, ap, subst, ◌∙◌}
 use mathlib.Core.Bool.{Bool, true, false, not, cond}
 use mathlib.Core.List.{List, [], ◌∷◌, ◌++◌, append-nil, append_assoc}
-use Prim.Native.Nat.{ℕ, ◌+◌, ◌-◌, ◌≤◌, ◌<◌}
+use Prim.Native.Nat.{ℕ, ◌+◌, ◌-◌, ◌≤◌}
 use native.Mathlib.Omega.{arith}
 use borrow.Author.Tests.{not-true, not-false}
-use borrow.Rule.Slice.PartMut.{put_mid}
+use borrow.Rule.Slice.PartMut.{put_mid, post_of}
 use lib.ListN.{length, take, drop, length-append, length-drop}
 use lib.Seq.{take_all, take-append-le, take-append-add, drop-append_seam, length-take-le, take-add}
 use Rattle.model.specs.Lists.{gather}
@@ -15,7 +15,7 @@ use Rattle.model.specs.Script.{ScriptCall, Readings, lines_of}
 use Rattle.carry.specs.Lines.{Printed, Carried}
 use Rattle.carry.proofs.Carrying.{readings-append, printed-none, printed-append, printed-alike}
 use Rattle.batch.specs.Pieces.{ended, begun, last, kept, TakenIn}
-use Rattle.batch.proofs.Cuts.{lines-ended, ended-append, begun-append, end-span}
+use Rattle.batch.proofs.Cuts.{lines-ended, ended-append, begun-append}
 use Rattle.batch.proofs.Keeping.{kept-kept, begun-alike, ended-alike, last-alike}
 use Rattle.console.specs.Turns.{HandedOn, TakenUpTo, Ended, Finished, Closed, Stepped, Turned, Ran}
 
@@ -24,9 +24,6 @@ neither : {A : Type 0} {b : Bool} → b ≡ true → b ≡ false → A
 neither e f = let z : ◌≡◌ {A = ℕ} 0 1 = cc in absurd (omega arith)
 
 -- ---- what is handed on
-
-pub handed-none : (out : List ℕ) (at : ℕ) → HandedOn out at at
-handed-none out at = record { handed = []; same = refl }
 
 -- the first bytes of the output, all of them
 module _ (out : List ℕ) (at : ℕ) (h : at ≤ length out) {n : ℕ} (e : n ≡ length (take (at - 0) out)) where
@@ -145,6 +142,12 @@ laid-front out y a k w h g =
     ∙ take-append-add (take a out) (y ++ _) w
     ∙ ap (λ (x : List ℕ). take a out ++ x) (take-append-le w y _ g)
 
+-- there is room for them
+laid-fits : (out y : List ℕ) (a k w : ℕ) → a ≤ length out → w ≤ length y → a + w ≤ length (put_mid a k out y)
+laid-fits out y a k w h g =
+    let l : length (take a out) ≡ a = length-take-le a out h in
+    omega (arith, length-append (take a out) (y ++ post_of a k out), length-append y (post_of a k out))
+
 module _ {out : List ℕ} {at start : ℕ} (h : HandedOn out at start) (within : start ≤ length out) (y : List ℕ) {w : ℕ} (g : w ≤ length y) (m : ℕ) where
   -- what was handed on and what stands there are what stood there and the text
   text-behind : h.handed ++ take (start + w) (put_mid start m out y) ≡ take at out ++ take w y
@@ -171,10 +174,6 @@ module _ {out : List ℕ} {at start : ℕ} (h : HandedOn out at start) (within :
         stays = λ e. neither refl e;
       }
 
--- nothing was done
-pub line-none : (k s w i k' w' : List ℕ) (used : ℕ) → Stepped false k s w i used k' s w'
-line-none k s w i k' w' used = record { taken = λ e. neither e refl; to_end = λ e. neither e refl; stays = λ e. refl }
-
 module _ {out : List ℕ} {at start : ℕ} (h : HandedOn out at start) (within : start ≤ length out) (m : ℕ) where
   -- the last line, without an end
   pub last-finished : {k s o t y : List ℕ} {w : ℕ} → Carried (last k) s o w t y → Finished k s (take at out) t (take (start + w) (put_mid start m out y))
@@ -188,28 +187,10 @@ lent-rest i from = take_all (length i - from) (drop from i) (omega (arith, lengt
 
 module _ {k s w i k1 t1 w1 : List ℕ} {from : ℕ} (a : TakenUpTo k s w i from k1 t1 w1) {ok : Bool} {used : ℕ} {k2 t2 w2 : List ℕ}
     (e : Stepped ok k1 t1 w1 (take (length i - from) (drop from i)) used k2 t2 w2) where
-  -- a line could not be taken in
-  pub feed-broken : not ok ≡ true → (k' w' : List ℕ) → Turned false false k s w i k' t2 w'
-  feed-broken h k' w' = record { taken = λ q. neither q refl; ended = λ q. rw (e.stays (not-true ok h)) (taken-ended a) }
-
   module _ (h : not ok ≡ false) where
     -- it was taken in
     pub feed-next : TakenUpTo k s w i (from + used) k2 t2 w2
     feed-next = taken_next a (rw (lent-rest i from) at (e.taken (not-false ok h)))
-
-    -- and something of the input was used
-    pub feed-some : from < length i → (0 < used) × (from + used ≤ length i)
-    feed-some g =
-        let l : length (take (length i - from) (drop from i)) ≡ length i - from = ap length (lent-rest i from) ∙ length-drop from i in
-        let u = e.to_end (not-false ok h) in
-        (omega (arith, u, (end-span (take (length i - from) (drop from i))).1), omega (arith, (e.taken (not-false ok h)).within))
-
-module _ {k s w i k' t w' : List ℕ} {from : ℕ} (a : TakenUpTo k s w i from k' t w') where
-  -- all of it
-  pub piece-taken : length i ≤ from → Turned true true k s w i k' t w'
-  piece-taken h =
-      let e : from ≡ length i = omega (arith, a.within) in
-      record { taken = λ q. subst (λ (u : ℕ). TakenUpTo k s w i u k' t w') e a; ended = λ q. neither refl q }
 
 -- what it prints is handed on, or could not be
 pub piece-settled : {going whole : Bool} {k s w i k' t out : List ℕ} {at to : ℕ} → Turned going whole k s w i k' t (take at out) → not going ≡ false → HandedOn out at to
@@ -246,21 +227,12 @@ module _ {k s w t : List ℕ} (out : List ℕ) (at : ℕ) (f : Finished k s w t 
 
 -- the last line carried out into the output from a place on, and all of it handed on
 pub close-all : {out : List ℕ} {at start : ℕ} → HandedOn out at start → start ≤ length out → (m : ℕ) {k s o t : List ℕ} (y : List ℕ) {w : ℕ} → Carried (last k) s o w t y
-    → start + w ≤ length (put_mid start m out y) → {n : ℕ} → n ≡ length (take (start + w - 0) (put_mid start m out y)) → (ok : Bool)
+    → {n : ℕ} → n ≡ length (take (start + w - 0) (put_mid start m out y)) → (ok : Bool)
     → Closed ok k s (take at out) t (take (start + w - n) (put_mid start m out y))
-close-all {out} {at} {start} h within m y {w} c fits e ok =
+close-all {out} {at} {start} h within m y {w} c e ok =
+    let fits = laid-fits out y start m w within c.within in
     closed-by (put_mid start m out y) (start + w) (last-finished h within m c) (handed-all (put_mid start m out y) (start + w) fits e)
     (handed-left (put_mid start m out y) (start + w) fits e) ok
-
--- no room could be made: nothing was carried out
-pub closed_none : (k s w w' : List ℕ) → Closed false k s w s w'
-closed_none k s w w' =
-    record {
-      finished = λ e. neither e refl;
-      handed = λ e. neither e refl;
-      ended = λ e.
-          record { used = 0; closed = false; text = []; within = omega arith; lines = printed-none s; all = λ q. neither q refl };
-    }
 
 -- a run is whole only if the input ended and all was written
 pub closed-ended : {ok : Bool} {k s w t w' : List ℕ} → Closed ok k s w t w' → Ended ok k s [] t
@@ -269,17 +241,6 @@ closed-ended {ok} {k} {s} {w} {t} {w'} c = go ok c.finished c.ended
     go : (b : Bool) → (b ≡ true → Finished k s w t w') → (b ≡ false → Ended false k s [] t) → Ended b k s [] t
     go true f g = finished-ended (f refl) true
     go false f g = g refl
-
-pub ended-less : {b : Bool} {k s i t : List ℕ} → Ended b k s i t → Ended false k s i t
-ended-less e =
-    record {
-      used = e.used;
-      closed = e.closed;
-      text = e.text;
-      within = e.within;
-      lines = e.lines;
-      all = λ q. neither q refl;
-    }
 
 -- ---- turns
 
@@ -335,18 +296,6 @@ module _ {s₀ line store out : List ℕ} {n at : ℕ} (r : Running s₀ line st
 -- the turns are at their end
 pub run_out : {s₀ line store out : List ℕ} {n at : ℕ} → Running s₀ line store out n at → Ran false s₀ store
 run_out r = record { pieces = r.pieces; ends = taken-ended r.taken }
-
--- ---- what is lent of a buffer from its beginning on
-
-pub stop-turned : (line : List ℕ) (n : ℕ) {b : Bool} {s t : List ℕ} → Ended b (take (n - 0) line) s [] t → (w k' w' : List ℕ) → Turned false b (take n line) s w [] k' t w'
-stop-turned line n {b} {s} {t} e w k' w' =
-    let z : n - 0 ≡ n = omega arith in
-    record { taken = λ q. neither q refl; ended = λ q. subst (λ (m : ℕ). Ended b (take m line) s [] t) z e }
-
-pub piece-turned : (i : List ℕ) (n : ℕ) {g b : Bool} {k s w k' t w' : List ℕ} → Turned g b k s w (take (n - 0) i) k' t w' → Turned g b k s w (take n i) k' t w'
-piece-turned i n {g} {b} {k} {s} {w} {k'} {t} {w'} e =
-    let z : n - 0 ≡ n = omega arith in
-    subst (λ (m : ℕ). Turned g b k s w (take m i) k' t w') z e
 
 -- ---- a run that is whole
 

@@ -1,4 +1,6 @@
 // The calls on a lent store: any bytes, of any length. A file for each call.
+#![tactic(auto)]
+
 mod deleting;
 mod inserting;
 mod updating;

@@ -1,4 +1,6 @@
 // The calls as C functions. A slice is passed as a pointer and a length; the result is returned by value.
+#![tactic(auto)]
+
 ghost use Rattle.promise.specs.Did.{Viewed, Inserted, Updated, Deleted, ViewedXml, Graded, InsertedXml};
 ghost use Rattle.promise.specs.Migrated.{Migrated};
 

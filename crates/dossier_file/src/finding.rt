@@ -2,47 +2,44 @@
 use crate::asking;
 use file_names::about;
 use file_names::about::Known;
+use std::fs::File;
+use std::io;
+use std::io::{Error, ErrorKind};
+use std::rt::HostRuntime;
 
-// Whether a file that could not be opened is missing and can be made: its folder can be opened.
-pub fn can_be_made(name: &[u8]) -> bool {
-    if os::errno() != libc::ENOENT {
-        return false;
+// Whether a file that could not be opened, by this error, is missing and can be made: its folder can be opened. If not, why.
+pub fn can_be_made(rt: &HostRuntime, name: &str, error: Error) -> io::Result<()> {
+    if error.kind() != ErrorKind::NotFound {
+        return Err(error);
     }
-    let folder = open_folder(name);
-    if folder < 0 {
-        return false;
-    }
-    libc::close(folder);
-    true
+    open_folder(rt, name)?;
+    Ok(())
 }
 
-// Opens the folder that a file of this name stands in, and yields a descriptor, or -1.
-pub fn open_folder(name: &[u8]) -> i32 {
-    let at = file_names::last_slash(name);
+// Opens the folder that a file of this name stands in.
+pub fn open_folder(rt: &HostRuntime, name: &str) -> io::Result<File> {
+    let at = file_names::last_slash(name.as_bytes());
     if at == name.len() {
-        return os::open_read(b".");
+        return File::open(rt, ".");
     }
     if at == 0 {
-        return os::open_read(b"/");
+        return File::open(rt, "/");
     }
-    os::open_read(&name[0..at])
+    File::open(rt, &name[..at])
 }
 
-// Looks which file bears the name now.
-pub fn look(name: &[u8]) -> Known {
-    let fd = os::open_read(name);
-    if fd < 0 {
-        return unopened();
+// Looks which file bears the name now. Where none does, that is known too.
+pub fn look(rt: &HostRuntime, name: &str) -> io::Result<Known> {
+    match File::open(rt, name) {
+        Ok(file) => asking::known_of(&file),
+        Err(error) => unopened(error),
     }
-    let known = asking::known_of(fd);
-    libc::close(fd);
-    known
 }
 
 // What an open that failed tells: that there is no file, or nothing.
-fn unopened() -> Known {
-    if os::errno() == libc::ENOENT {
-        return about::none();
+fn unopened(error: Error) -> io::Result<Known> {
+    if error.kind() == ErrorKind::NotFound {
+        return Ok(about::none());
     }
-    about::nothing()
+    Err(error)
 }

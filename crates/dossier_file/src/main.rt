@@ -1,167 +1,232 @@
 // A program that keeps a store in a file. Argument 1 names the file, standard input is a script, and what the script's calls print
 // goes to standard output. A file that is missing is made; one of another length than a store's is never written.
+#![tactic(auto)]
+
 mod asking;
 mod finding;
 mod saving;
 mod telling;
 
-ghost use Rattle.std.specs.Prelude.{◌≡◌, ◌≤◌, length};
+ghost use Rattle.std.specs.Prelude.{◌≡◌, ◌≤◌, length, IfOk};
 ghost use Rattle.model.specs.Store.{empty_store};
 ghost use Rattle.console.specs.Turns.{Ran};
 
+use file_names::about;
 use file_names::about::Known;
-use libc::{STDERR_FILENO, STDIN_FILENO};
+use std::env::FillError;
+use std::fs::File;
+use std::io;
+use std::io::{Error, Read};
+use std::rt::Env;
 
-// Takes the one argument. It leaves room for what a new file's name has more.
-fn main() {
-    if os::arg_count() != 2 {
-        telling::usage(STDERR_FILENO);
+// The system's number for an argument that is not valid.
+const INVALID: i32 = 22;
+
+// How many bytes were read, and by what error a read failed, if one did.
+#[derive(Drop)]
+struct Filled {
+    count: usize,
+    failed: Option<Error>,
+}
+
+// Takes the one argument.
+fn main(rt: HostRuntime) {
+    if !has_argument(&rt, 1) || has_argument(&rt, 2) {
+        telling::usage(&mut rt.stderr());
         return;
     }
+    take(&rt);
+}
+
+// Whether there is an argument i.
+fn has_argument(rt: &HostRuntime, i: usize) -> bool {
+    let mut space = [0u8; 1];
+    match rt.arg(i, &mut space) {
+        Err(FillError::NotPresent) => false,
+        _ => true,
+    }
+}
+
+// Takes the word. It leaves room for what a new file's name has more.
+fn take(rt: &HostRuntime) {
     let mut space = [0u8; 4088];
-    let n = os::arg(1, &mut space);
-    if os::errno() != 0 {
-        telling::no_word();
-        return;
+    match rt.arg(1, &mut space) {
+        Ok(n) => heed(rt, &space[..n]),
+        Err(_) => telling::no_word(rt),
     }
-    heed(&space[..n]);
 }
 
 // Gives help where it is asked for. Any other word that begins with a dash is refused, since it might be meant for an option; an
-// empty one names no file.
-fn heed(word: &[u8])
+// empty one names no file, and neither does one that is no text.
+fn heed(rt: &HostRuntime, word: &[u8])
     requires { length word.now ≤ 4088 }
 {
     if file_names::asks_help(word) {
-        telling::help();
+        telling::help(rt);
         return;
     }
     if file_names::is_dashed(word) {
-        telling::dashed(word);
+        telling::dashed(rt, word);
         return;
     }
     if word.len() == 0 {
-        telling::empty_word();
+        telling::empty_word(rt);
         return;
     }
-    start(word);
+    match str::from_utf8(word) {
+        Ok(name) => start(rt, name),
+        Err(_) => telling::no_text(rt, word),
+    }
 }
 
 // Opens the file of this name. A symbolic link is refused, since saving would put a file in the link's place and leave the file that it
 // leads to.
-fn start(name: &[u8])
+fn start(rt: &HostRuntime, name: &str)
     requires { length name.now ≤ 4088 }
 {
-    if asking::is_link(name) {
-        telling::is_link(name);
+    if asking::is_link(rt, name) {
+        telling::is_link(rt, name);
         return;
     }
-    let fd = os::open_read(name);
-    if fd < 0 {
-        start_without(name);
-        return;
+    match File::open(rt, name) {
+        Ok(file) => start_with(rt, file, name),
+        Err(error) => start_without(rt, name, error),
     }
-    start_with(fd, name);
 }
 
 // The file could not be opened: it is missing and can be made, or the error is told.
-fn start_without(name: &[u8])
+fn start_without(rt: &HostRuntime, name: &str, error: Error)
     requires { length name.now ≤ 4088 }
 {
-    if finding::can_be_made(name) {
-        begin_empty(name);
-        return;
+    match finding::can_be_made(rt, name, error) {
+        Ok(()) => begin_empty(rt, name),
+        Err(error) => telling::failed(rt, name, error),
     }
-    os::fail(name);
 }
 
 // An open file is read if it is a regular one. The bytes have room for one more than a store has, so that a longer file is seen.
-fn start_with(fd: i32, name: &[u8])
+fn start_with(rt: &HostRuntime, file: File, name: &str)
     requires { length name.now ≤ 4088 }
 {
-    let known = asking::known_of(fd);
+    let known = match asking::known_of(&file) {
+        Ok(known) => known,
+        Err(_) => about::nothing(),
+    };
     if !asking::is_regular(known.mode) {
-        telling::is_irregular(name);
+        telling::is_irregular(rt, name);
         return;
     }
     let mut bytes = [0u8; 41089];
-    read(fd, name, &mut bytes, known);
+    read(rt, file, name, &mut bytes, known);
 }
 
 // Reads the file, to its end or as far as the bytes have room, and goes on with what came. Where a read fails, says so.
-fn read(fd: i32, name: &[u8], bytes: &mut [u8], known: Known)
+fn read(rt: &HostRuntime, file: File, name: &str, bytes: &mut [u8], known: Known)
     requires { length name.now ≤ 4088 }
 {
-    let n = io::read_full(fd, bytes);
-    if n < bytes.len() {
-        if !is_at_end(fd) {
-            os::fail(name);
-            return;
-        }
+    match contents(file, bytes) {
+        Ok(n) => go_on(rt, name, &mut bytes[..n], known),
+        Err(error) => telling::failed(rt, name, error),
     }
-    libc::close(fd);
-    go_on(name, &mut bytes[..n], known);
 }
 
-// Whether no more of a file is to come: one more read gives nothing, and does not fail.
-fn is_at_end(fd: i32) -> bool {
+// Reads a file, to its end or as far as the bytes have room, and closes it. Yields how many bytes came.
+fn contents(mut file: File, bytes: &mut [u8]) -> io::Result<usize>
+    ensures { IfOk result (λ n. n ≤ length bytes.new) }
+{
+    let filled = read_full(&mut file, bytes);
+    if filled.count < bytes.len() {
+        check_end(&mut file, filled.failed)?;
+    }
+    Ok(filled.count)
+}
+
+// Reads until the bytes are full, the file ends or a read fails.
+fn read_full(file: &mut File, bytes: &mut [u8]) -> Filled
+    ensures { result.count ≤ length bytes.new }
+{
+    let mut count = 0;
+    while count < bytes.len() {
+        match file.read(&mut bytes[count..]) {
+            Ok(0) => break,
+            Ok(n) => count += n,
+            Err(error) => {
+                return Filled {
+                    count,
+                    failed: Some(error),
+                };
+            }
+        }
+    }
+    Filled {
+        count,
+        failed: None,
+    }
+}
+
+// Whether no more of a file is to come: one more read gives nothing, and does not fail. If there is more, a read before has failed, or
+// the file was made longer meanwhile.
+fn check_end(file: &mut File, failed: Option<Error>) -> io::Result<()> {
     let mut more = [0u8; 1];
-    libc::read(fd, &mut more) == 0
+    if file.read(&mut more)? == 0 {
+        return Ok(());
+    }
+    Err(failed.unwrap_or(Error::from_raw_os_error(INVALID)))
 }
 
 // Goes on with what is in the file: a store, or bytes of another length, which are never saved.
-fn go_on(name: &[u8], bytes: &mut [u8], known: Known)
+fn go_on(rt: &HostRuntime, name: &str, bytes: &mut [u8], known: Known)
     requires { length name.now ≤ 4088 }
 {
     if bytes.len() == 41088 {
-        go_on_store(name, bytes, known);
+        go_on_store(rt, name, bytes, known);
         return;
     }
-    carry_out(name, bytes);
+    carry_out(rt, name, bytes);
 }
 
 // A missing file begins as the empty store, which is zeros.
-fn begin_empty(name: &[u8])
+fn begin_empty(rt: &HostRuntime, name: &str)
     requires { length name.now ≤ 4088 }
 {
     let mut store = [0u8; 41088];
-    begin(name, &mut store);
+    begin(rt, name, &mut store);
 }
 
 // The script is carried out from the empty store, which is saved in any case.
-fn begin(name: &[u8], store: &mut [u8])
+fn begin(rt: &HostRuntime, name: &str, store: &mut [u8])
     requires { (length name.now ≤ 4088) × (store.old ≡ empty_store) }
 {
-    if carry_out(name, store) {
-        saving::save_new(name, store);
+    if carry_out(rt, name, store) {
+        saving::save_new(rt, name, store);
     }
 }
 
 // A store in a file: a copy tells whether it has changed.
-fn go_on_store(name: &[u8], store: &mut [u8], known: Known)
+fn go_on_store(rt: &HostRuntime, name: &str, store: &mut [u8], known: Known)
     requires { (length name.now ≤ 4088) × (length store.old ≡ 41088) }
 {
     let mut before = [0u8; 41088];
-    change(name, store, &mut before, known);
+    change(rt, name, store, &mut before, known);
 }
 
 // The script is carried out on a store, and it is saved where it has changed.
-fn change(name: &[u8], store: &mut [u8], before: &mut [u8; 41088], known: Known)
+fn change(rt: &HostRuntime, name: &str, store: &mut [u8], before: &mut [u8; 41088], known: Known)
     requires { (length name.now ≤ 4088) × (length store.old ≡ 41088) }
 {
-    bytes::copy(store, before);
-    if carry_out(name, store) {
-        saving::save_over(name, store, before, known);
+    before.copy_from_slice(store);
+    if carry_out(rt, name, store) {
+        saving::save_over(rt, name, store, before, known);
     }
 }
 
 // Carries out the script on the bytes as they are. Where that is not done to the end, says so and yields false.
-fn carry_out(name: &[u8], bytes: &mut [u8]) -> bool
+fn carry_out(rt: &HostRuntime, name: &str, bytes: &mut [u8]) -> bool
     ensures { Ran result bytes.old bytes.new }
 {
-    if console::run(STDIN_FILENO, bytes) {
+    if console::run(&mut rt.stdin(), &mut rt.stdout(), bytes) {
         return true;
     }
-    telling::broken_off(name);
+    telling::broken_off(rt, name);
     false
 }

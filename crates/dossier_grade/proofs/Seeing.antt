@@ -8,7 +8,6 @@ use native.Mathlib.Omega.{arith}
 use lib.ListN.{length, get_or}
 use lib.Dec.{T, eqb, eqb_refl}
 use mir.Facts.{not_T, T_not}
-use borrow.Author.Tests.{not-false}
 use Rattle.model.specs.Lists.{◌∈◌}
 use Rattle.model.specs.Label.{dominates}
 use Rattle.model.specs.Path.{Step, valid_path, ends_in, steps_of}
@@ -78,16 +77,16 @@ ends p good = subst T (last-label p (get_or p (length p - 1) 0) (good-path p goo
 
 module _ {b : List ℕ} {s : ℕ} (o : Opened b s) (p : List ℕ) (good : T (good_path p)) {r : Bool} (e : r ≡ dominates s (get_or p (length p - 1) 0)) where
   -- of a label that the subject does not dominate it is not in view
-  pub sees-none : not r ≡ true → Unseen ≡ sight_at s b (steps_of p)
+  pub sees-none : r ≡ false → Unseen ≡ sight_at s b (steps_of p)
   sees-none t =
       unseen-at s b (steps_of p)
       (not_T (in_view s (open_model b) (steps_of p))
       (λ v. T_not (dominates s (get_or p (length p - 1) 0)) (in-view-label s (open_model b) (open-valid b) (steps_of p) (get_or p (length p - 1) 0) (ends p good) v) (failed e t)))
 
   -- of another, the label's partition is lent
-  module _ (yes : not r ≡ false) where
+  module _ (yes : r ≡ true) where
     pub label-seen : T (dominates s (get_or p (length p - 1) 0))
-    label-seen = told-yes e (not-false r yes)
+    label-seen = told-yes e yes
 
     pub path-partition : {x : List ℕ} → (x ≡ partition (get_or p (length p - 1) 0) b) × (length x ≡ partition_size) → PathPartition b s p x
     path-partition g = record { opened = o; path = good; label = label-seen; is = g.0; size = g.1 }
@@ -128,17 +127,17 @@ module _ (c : Content) {k w : ℕ} (e : k ≡ c.kind) (f : (w ≡ k) × (w < 256
   by_kind : r.number ≡ eqb c.kind 1
   by_kind = ap (λ (x : Rule). x.number) (q ∙ ap rule_of (f.0 ∙ e)) ∙ number-kind c.kind
 
-  pub content-other : not r.number ≡ true → Other ≡ sight_of true (some c)
+  pub content-other : r.number ≡ false → Other ≡ sight_of true (some c)
   content-other t = sym (cond_no (eqb c.kind 1) (Measure (measure_of c.value)) Other (failed by_kind t))
 
-  module _ (t : not r.number ≡ false) where
+  module _ (t : r.number ≡ true) where
     pub measure-four : T (storable c) → {v : List ℕ} → v ≡ c.value → length v ≡ 4
     unfolding storable
     measure-four a {v} g =
         let u : (w ≡ c.kind) × (w < 256) = (f.0 ∙ e, f.1) in
-        ap length g ∙ measure-length c.value a u q (not-false r.number t)
+        ap length g ∙ measure-length c.value a u q t
 
     pub content-measure : {v : List ℕ} → v ≡ c.value → {m : ℕ} → m ≡ measure_of v → Measure m ≡ sight_of true (some c)
     content-measure g h =
         ap Measure (h ∙ ap measure_of g)
-        ∙ sym (cond_yes (eqb c.kind 1) (Measure (measure_of c.value)) Other (told-yes by_kind (not-false r.number t)))
+        ∙ sym (cond_yes (eqb c.kind 1) (Measure (measure_of c.value)) Other (told-yes by_kind t))

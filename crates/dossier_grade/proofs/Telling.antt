@@ -31,14 +31,14 @@ use Rattle.dossier_grade.specs.Sights.{sight_of, sight_at, told_of}
 -- ---- rows 4 and 11
 
 module _ (p q : List ℕ) (n : ℕ) {r : Bool} (e : r ≡ view_path p) where
-  pub asked-base : not r ≡ true → 4 ≡ row_code (asked_rows p q n)
+  pub asked-base : r ≡ false → 4 ≡ row_code (asked_rows p q n)
   asked-base t = row-applies _ _ (failed e t)
 
-  module _ (base : not r ≡ false) {w : Bool} (f : w ≡ view_path q) where
-    pub asked-top : not w ≡ true → 4 ≡ row_code (asked_rows p q n)
+  module _ (base : r ≡ true) {w : Bool} (f : w ≡ view_path q) where
+    pub asked-top : w ≡ false → 4 ≡ row_code (asked_rows p q n)
     asked-top t = rows_behind (view_path_rows p) (view_path_rows q ++ sizes_rows n) (held e base, tt) (row-applies _ _ (failed f t))
 
-    module _ (top : not w ≡ false) where
+    module _ (top : w ≡ true) where
       paths-pass : Passes (view_path_rows p ++ view_path_rows q)
       paths-pass = (held e base, (held f top, tt))
 

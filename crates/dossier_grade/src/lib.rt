@@ -1,4 +1,6 @@
 // The even grade between two measures, on a lent store: any bytes, of any length.
+#![tactic(auto)]
+
 mod sighting;
 
 ghost use Rattle.std.specs.Prelude.{◌≡◌, [], ◌<◌, pos};

@@ -9,7 +9,6 @@ use native.Mathlib.Omega.{arith}
 use lib.ListN.{length, take, drop, length-append}
 use lib.Dec.{T, eqb}
 use mir.Facts.{or_yes, eqb_yes}
-use borrow.Author.Tests.{not-false}
 use Rattle.model.specs.Lists.{◌∈◌}
 use Rattle.model.specs.Path.{Step, valid_step, steps_of}
 use Rattle.model.specs.Element.{Element}
@@ -80,13 +79,13 @@ module _ (s : ℕ) (b p t : List ℕ) where
 
   module _ (o : Opened b s) {v : Bool} (e : v ≡ view_path p) where
     -- the path is none
-    pub take-stray : not v ≡ true → ActedXml s p t b 4 0 b
+    pub take-stray : v ≡ false → ActedXml s p t b 4 0 b
     unfolding op_rows
     take-stray h =
         let f = sending-exists (length (steps_of p)) t in
         record { sent = f.0; reads = f.1; acted = acted-refused (insert_xml p f.0) s b [] o.formed (row-applies _ _ (failed e h)) (λ z. absurd (omega arith)) }
 
-    module _ (h : not v ≡ false) (n : ℕ) (k : n ≡ length p / 3) (hs ps : List ℕ) (x : TreeRead) (read : SentBy n s t hs ps x) where
+    module _ (h : v ≡ true) (n : ℕ) (k : n ≡ length p / 3) (hs ps : List ℕ) (x : TreeRead) (read : SentBy n s t hs ps x) where
       read_by : SentBy (length (steps_of p)) s t hs ps x
       read_by = subst (λ (d : ℕ). SentBy d s t hs ps x) (k ∙ sym (length-steps p)) read
 
@@ -107,7 +106,7 @@ module _ (s : ℕ) (b p t : List ℕ) where
         tree-sent = subst (SentBy (length (steps_of p)) s t hs ps) tree_is read_by
 
         -- an element that is another's, or removed
-        pub take-foreign : not y.own ≡ true → ActedXml s p t b 14 0 b
+        pub take-foreign : y.own ≡ false → ActedXml s p t b 14 0 b
         unfolding op_rows
         take-foreign w =
             let f : Forest = tree-sent.trees in
@@ -121,10 +120,10 @@ module _ (s : ℕ) (b p t : List ℕ) where
             }
 
         -- the tree may be looked for
-        pub take-ready : not y.own ≡ false → Ready s p t b y.name y.count hs ps
+        pub take-ready : y.own ≡ true → Ready s p t b y.name y.count hs ps
         take-ready w =
             let f : Forest = tree-sent.trees in
-            let own : T (own_live s f) = told-yes tree-sent.own (not-false y.own w) in
+            let own : T (own_live s f) = told-yes tree-sent.own w in
             let a : Step = record { name = y.name; label = y.label } in
             let m : a ∈ siblings f = subst (λ (q : List Step). a ∈ q) (sym tree-sent.step) (Memᴰ.head refl) in
             let l : y.label ≡ s = own-siblings s f own m in

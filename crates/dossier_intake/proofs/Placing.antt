@@ -28,13 +28,12 @@ use Rattle.dossier_intake.specs.Taking.{TopPath, TreeRow}
 
 -- a buffer that begins with a path, and a step written behind it
 pub top-put : (p b : List ℕ) (name label : ℕ) → length p % 3 ≡ 0 → length p ≤ 15 → length b ≡ 18
-    → {x y : List ℕ} → x ≡ take (length p) p ++ drop (length p) b → y ≡ put_step x (length p / 3) name label → TopPath p (record { name = name; label = label }) y
+    → {x y : List ℕ} → x ≡ p ++ drop (length p) b → y ≡ put_step x (length p / 3) name label → TopPath p (record { name = name; label = label }) y
 top-put p b name label w h s {x} {y} e f =
     let n : ℕ = length p / 3 in
     let three : 3 * n ≡ length p = omega arith in
-    let start : x ≡ p ++ drop (length p) b = e ∙ ap (λ (l : List ℕ). l ++ drop (length p) b) (take_all (length p) p (omega arith)) in
-    let long : length x ≡ 18 = ap length start ∙ length-append p (drop (length p) b) ∙ ap (λ (k : ℕ). length p + k) (length-drop (length p) b) ∙ omega arith in
-    let first : take (3 * n) x ≡ p = ap (take (3 * n)) start ∙ take_at p (drop (length p) b) (3 * n) (sym three) in
+    let long : length x ≡ 18 = ap length e ∙ length-append p (drop (length p) b) ∙ ap (λ (k : ℕ). length p + k) (length-drop (length p) b) ∙ omega arith in
+    let first : take (3 * n) x ≡ p = ap (take (3 * n)) e ∙ take_at p (drop (length p) b) (3 * n) (sym three) in
     let end : 3 * (n + 1) ≡ length p + 3 = omega arith in
     record {
       size = ap length f ∙ length-put x n name label ∙ long;
@@ -50,10 +49,10 @@ top-put p b name label w h s {x} {y} e f =
 
 module _ {s : ℕ} {b : List ℕ} (o : Opened b s) (p q : List ℕ) (n : ℕ) {v : Bool} (e : v ≡ in_view s (open_model b) (steps_of p)) where
   -- the parent is not in view
-  pub row-unseen : not v ≡ true → TreeRow s b p q n 7
+  pub row-unseen : v ≡ false → TreeRow s b p q n 7
   row-unseen h a l w = row-applies _ _ (failed e h)
 
-  module _ (h : not v ≡ false) {x : List ℕ} (g : (x ≡ partition s b) × (length x ≡ partition_size)) {at : ℕ} {f : Bool} (found : Found x (steps_of q) at f) where
+  module _ (h : v ≡ true) {x : List ℕ} (g : (x ≡ partition s b) × (length x ≡ partition_size)) {at : ℕ} {f : Bool} (found : Found x (steps_of q) at f) where
     -- the element is live where it is found
     found-is : (a : Step) → a.label ≡ s → steps_of q ≡ steps_of p ++ (a ∷ []) → f ≡ live (open_model b) (steps_of p ++ (a ∷ []))
     found-is a l w =

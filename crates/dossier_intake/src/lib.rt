@@ -1,4 +1,6 @@
 // The call that takes in a whole style as XML, on any bytes.
+#![tactic(auto)]
+
 mod rows;
 
 ghost use Rattle.promise.specs.Did.{InsertedXml};

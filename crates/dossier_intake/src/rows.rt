@@ -8,7 +8,7 @@ pub fn put_top(path: &[u8], name: u64, label: u8, buffer: &mut [u8; 18])
     requires { (length path.now % 3 ≡ 0) × (length path.now ≤ 15) × (name ≤ 65535) }
     ensures { TopPath path.now (record { name = name; label = label }) buffer.new }
 {
-    bytes::copy(path, buffer);
+    buffer[..path.len()].copy_from_slice(path);
     path::put_step(buffer, path.len() / 3, name, label as u64);
 }
 

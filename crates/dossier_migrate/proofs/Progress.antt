@@ -5,7 +5,6 @@ use mathlib.Core.List.{List, map}
 use Prim.Native.Nat.{ℕ, suc, ◌+◌, ◌-◌, ◌*◌, ◌≤◌, ◌<◌}
 use native.Mathlib.Omega.{arith}
 use native.Mathlib.Decide.{dec_le}
-use borrow.Author.Tests.{not-true, not-false}
 use borrow.Rule.Slice.PartMut.{put_mid}
 use lib.ListN.{length, take, drop, length-map}
 use lib.Dec.{T, eqb}
@@ -41,18 +40,18 @@ bit-small n b e = rw e (go (not (former_well_formed n b)))
 
 module _ (n : ℕ) (b : List ℕ) {r : Bool} (e : r ≡ former_well_formed n b) where
   -- not well formed
-  pub raw-bit : not r ≡ true → (◌≡◌ {A = ℕ} 1 (bit_of n b)) × (b ≡ migrated n b)
+  pub raw-bit : r ≡ false → (◌≡◌ {A = ℕ} 1 (bit_of n b)) × (b ≡ migrated n b)
   raw-bit t =
-      let f : former_well_formed n b ≡ false = sym e ∙ not-true r t in
+      let f : former_well_formed n b ≡ false = sym e ∙ t in
       (rw f, sym (migrated-raw n b (rw f tt)))
 
   -- well formed
-  pub formed-former : not r ≡ false → Former b
-  formed-former t = let f : former_well_formed n b ≡ true = sym e ∙ not-false r t in record { label = n; is = rw f tt }
+  pub formed-former : r ≡ true → Former b
+  formed-former t = let f : former_well_formed n b ≡ true = sym e ∙ t in record { label = n; is = rw f tt }
 
-  pub formed-bit : not r ≡ false → {x : List ℕ} → x ≡ layout (sort rank (read_partition b)) → (◌≡◌ {A = ℕ} 0 (bit_of n b)) × (x ≡ migrated n b)
+  pub formed-bit : r ≡ true → {x : List ℕ} → x ≡ layout (sort rank (read_partition b)) → (◌≡◌ {A = ℕ} 0 (bit_of n b)) × (x ≡ migrated n b)
   formed-bit t g =
-      let f : former_well_formed n b ≡ true = sym e ∙ not-false r t in
+      let f : former_well_formed n b ≡ true = sym e ∙ t in
       (rw f, g ∙ sym (migrated-layout n b (rw f tt)))
 
 -- ---- the store

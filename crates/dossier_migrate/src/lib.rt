@@ -1,4 +1,6 @@
 // The migration of a store of before 7/14 to path order, on lent bytes of any length.
+#![tactic(auto)]
+
 ghost use Rattle.std.specs.Prelude.{◌≡◌, not, cond, ◌<◌, length};
 ghost use Rattle.model.specs.Partition.{partition_size};
 ghost use Rattle.model.specs.Store.{store_size};

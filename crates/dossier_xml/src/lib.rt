@@ -1,4 +1,6 @@
 // The calls that read and write XML, on a lent store: any bytes, of any length.
+#![tactic(auto)]
+
 ghost use Rattle.std.specs.Prelude.{length};
 ghost use Rattle.model.specs.Call as calls;
 ghost use Rattle.model.specs.Call.{counted};

@@ -1,4 +1,3 @@
 -- Laws that the proofs of this crate's functions cite.
 pub mod Naming
 pub mod Slashes
-pub mod Telling

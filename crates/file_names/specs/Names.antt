@@ -1,5 +1,5 @@
 -- Names of files, and the words that are not taken for one.
-use Rattle.std.specs.Prelude.{◌≡◌, Bool, false, not, cond, ◌&&◌, ◌||◌, ◌⊎◌, List, [], ◌∷◌, ◌++◌, ℕ, suc, ◌-◌, eqb, length, replicate}
+use Rattle.std.specs.Prelude.{◌≡◌, Bool, false, not, cond, ◌&&◌, ◌||◌, ◌⊎◌, List, [], ◌∷◌, ◌++◌, ℕ, suc, ◌-◌, eqb, length, replicate, slice_index_or}
 
 -- a word that asks for help: -h or --help
 abbrev pub AsksHelp : List ℕ → Type 0
@@ -21,6 +21,10 @@ new_name name = name ++ new_end
 -- a name as C takes it: zeros behind it, 4,096 bytes in all
 abbrev pub for_c : List ℕ → List ℕ
 for_c name = name ++ replicate (4096 - length name) 0
+
+-- what C takes as a name: it ends, since the last of the 4,096 bytes is 0
+abbrev pub Ended : List ℕ → Type 0
+Ended bytes = slice_index_or bytes 4095 1 ≡ 0
 
 -- whether a slash, byte 47, stands in a text
 abbrev pub has_slash : List ℕ → Bool

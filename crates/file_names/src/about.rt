@@ -2,11 +2,16 @@
 ghost use Rattle.std.specs.Prelude.{◌≡◌};
 ghost use Rattle.file_names.specs.Tells.{Tells};
 
-use libc::types::timespec;
+// A time as the system tells it: seconds since the beginning of 1970, and nanoseconds within the second.
+#[derive(Clone, Copy)]
+pub struct Time {
+    pub seconds: i64,
+    pub nanoseconds: i64,
+}
 
 // What is kept of what the system says: the owner, the group, the mode, which is the kind and twelve bits of rights, the device and the
 // number of the file there, its length, and when its bytes and what is known of it were last changed.
-#[derive(Drop)]
+#[derive(Clone, Copy)]
 pub struct Known {
     pub owner: u32,
     pub group: u32,
@@ -14,8 +19,8 @@ pub struct Known {
     pub device: u64,
     pub inode: u64,
     pub size: i64,
-    pub written: timespec,
-    pub changed: timespec,
+    pub written: Time,
+    pub changed: Time,
 }
 
 // What is known where there is no file: no kind, and the rights that a new store is given, which is its owner's alone. The owner and the
@@ -93,13 +98,13 @@ fn same_file(device: u64, device2: u64, inode: u64, inode2: u64) -> bool
 }
 
 // Whether two times are the same.
-fn same_time(a: timespec, b: timespec) -> bool
+fn same_time(a: Time, b: Time) -> bool
     ensures { Tells result (a ≡ b) }
 {
-    if !same_number(a.tv_sec, b.tv_sec) {
+    if !same_number(a.seconds, b.seconds) {
         return false;
     }
-    same_number(a.tv_nsec, b.tv_nsec)
+    same_number(a.nanoseconds, b.nanoseconds)
 }
 
 // Whether two signed numbers are the same.
@@ -110,9 +115,9 @@ fn same_number(a: i64, b: i64) -> bool
 }
 
 // The time 0.
-fn never() -> timespec {
-    timespec {
-        tv_sec: 0,
-        tv_nsec: 0,
+fn never() -> Time {
+    Time {
+        seconds: 0,
+        nanoseconds: 0,
     }
 }

@@ -1,20 +1,21 @@
 // Files by their names: the names that are made of a store's, what a word tells before it is taken for a name, and (`about`) what is kept
 // of what the system knows of a file.
+#![tactic(auto)]
+
 pub mod about;
 
-ghost use Rattle.std.specs.Prelude.{◌≡◌, ◌+◌, ◌≤◌, length, take};
-ghost use Rattle.libc.specs.Io.{Ended};
-ghost use Rattle.file_names.specs.Names.{new_name, last_slash, for_c, is_dashed, AsksHelp};
+ghost use Rattle.std.specs.Prelude.{◌≡◌, ◌+◌, ◌≤◌, ◌<◌, length, take, slice_index};
+ghost use Rattle.file_names.specs.Names.{new_name, last_slash, for_c, is_dashed, AsksHelp, Ended};
 ghost use Rattle.file_names.specs.Tells.{Tells};
 
 // Whether a word asks for help: it is -h or --help.
 pub fn asks_help(word: &[u8]) -> bool
     ensures { Tells result (AsksHelp word.now) }
 {
-    if check::same(word, b"-h") {
+    if word == b"-h".as_slice() {
         return true;
     }
-    check::same(word, b"--help")
+    word == b"--help".as_slice()
 }
 
 // Whether a word begins with a dash, as options do.
@@ -32,15 +33,17 @@ pub fn put_new(name: &[u8], space: &mut [u8]) -> usize
     requires { (length name.now ≤ 4088) × (length space.old ≡ 4096) }
     ensures { (result ≡ length name.now + 7) × (take result space.new ≡ new_name name.now) }
 {
-    let n = bytes::copy(name, space);
+    let n = name.len();
+    space[..n].copy_from_slice(name);
     let end = n + 7;
-    bytes::copy(b".XXXXXX", &mut space[n..end]);
+    space[n..end].copy_from_slice(b".XXXXXX");
     end
 }
 
 // Where the last slash of a name stands, or its length where it has none.
 pub fn last_slash(name: &[u8]) -> usize
-    ensures { (result ≡ last_slash name.now) × (result ≤ length name.now) }
+    ensures place { (result ≡ last_slash name.now) × (result ≤ length name.now) }
+    ensures slash { result < length name.now → slice_index name.now result ≡ 47 }
 {
     let mut i = name.len();
     while 0 < i {
@@ -58,6 +61,6 @@ pub fn ended(name: &[u8]) -> [u8; 4096]
     ensures { (result ≡ for_c name.now) × Ended result }
 {
     let mut path = [0u8; 4096];
-    bytes::copy(name, &mut path);
+    path[..name.len()].copy_from_slice(name);
     path
 }

@@ -1,4 +1,6 @@
 // The step and the remainder of an even grade, from two measures.
+#![tactic(auto)]
+
 ghost use Rattle.std.specs.Prelude.{◌≡◌, ◌<◌, pos, neg_ℤ, ◌+ℤ◌, ◌-ℤ◌};
 ghost use Rattle.model.specs.Grade as grades;
 ghost use Rattle.model.specs.Grade.{whole_of};

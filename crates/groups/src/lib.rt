@@ -1,4 +1,6 @@
 // The groups that are missing above an element, and the element, put into a partition.
+#![tactic(auto)]
+
 ghost use Rattle.std.specs.Prelude.{◌≡◌, ◌≤◌, length};
 ghost use Rattle.model.specs.Path.{steps_of};
 ghost use Rattle.model.specs.Partition.{layout, read_partition};

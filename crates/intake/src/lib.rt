@@ -1,4 +1,6 @@
 // The elements of a text put into a partition, in the text's order, by what was kept of each while it was read.
+#![tactic(auto)]
+
 ghost use Rattle.std.specs.Prelude.{◌≡◌, [], ◌∷◌, ◌++◌, ◌/◌, ◌%◌, ◌≤◌, ◌<◌, length};
 ghost use Rattle.model.specs.Lists.{between};
 ghost use Rattle.model.specs.Path.{steps_of};
@@ -11,7 +13,7 @@ ghost use Rattle.intake.specs.Progress.{step_of, Below, Stepped, Way, Went};
 use scan_value::ValueRead;
 
 // An element's step, how many stand above it, and its kind.
-#[derive(Drop)]
+#[derive(Clone, Copy)]
 struct Head {
     steps: usize,
     name: u64,

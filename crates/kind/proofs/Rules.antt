@@ -1,5 +1,5 @@
 -- A value is allowed where it passes the rule of its kind; the letter of a kind is its rule's, and the rule says how a value is printed.
-use mathlib.Core.Path.{◌≡◌, refl, sym, subst}
+use mathlib.Core.Path.{◌≡◌, refl, sym, subst, ap, ◌∙◌}
 use mathlib.Core.Bool.{Bool, true, false, ◌&&◌, and-true}
 use mathlib.Core.List.{List, [], ◌∷◌}
 use Prim.Native.Nat.{ℕ, zero, suc, ◌≤◌, ◌<◌}
@@ -80,6 +80,10 @@ allowed-rule (suc zero) {v} b =
     rw (is_true (all is_byte v) b.bytes, and-true (eqb (length v) 4)) (exactly 4 v b.bytes)
 allowed-rule (suc (suc zero)) b = refl
 allowed-rule (suc (suc (suc k))) {v} b = none v
+
+-- what passes the rule that a kind has is allowed
+pub by_kind : (k : ℕ) {v : List ℕ} {r : Rule} → Bytes v → r ≡ rule_of k → passes r v ≡ allowed k v
+by_kind k {v = v} b e = ap (λ (x : Rule). passes x v) e ∙ sym (allowed-rule k b)
 
 pub letter-rule : (k : ℕ) → (rule_of k).letter ∷ [] ≡ letter k
 unfolding letter rule_of

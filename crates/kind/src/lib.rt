@@ -1,4 +1,6 @@
 // Kinds: what a value of a kind may be, and the letter that it is printed with. No other crate compares a kind.
+#![tactic(auto)]
+
 ghost use Rattle.std.specs.Prelude.{◌≡◌, [], ◌∷◌};
 ghost use Rattle.model.specs.Lists.{all};
 ghost use Rattle.model.specs.Value.{allowed};

@@ -1,4 +1,6 @@
 // Labels: which dominates which.
+#![tactic(auto)]
+
 ghost use Rattle.std.specs.Prelude.{◌≡◌};
 ghost use Rattle.model.specs.Label.{dominates};
 

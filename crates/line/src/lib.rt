@@ -1,4 +1,6 @@
 // The lines of a printed view put into an output from a place on, as `text` puts bytes and numbers.
+#![tactic(auto)]
+
 ghost use Rattle.std.proofs.Math.Option.{none, some};
 ghost use Rattle.std.specs.Prelude.{[], ◌∷◌, ◌++◌, ◌+◌, ◌<◌, T};
 ghost use Rattle.model.specs.Value.{allowed};

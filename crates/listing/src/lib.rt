@@ -1,4 +1,6 @@
 // The listing of what a subject sees, written into an output.
+#![tactic(auto)]
+
 mod lines;
 
 ghost use Rattle.std.specs.Prelude.{◌≡◌, ◌<◌, ◌≤◌, length, get_or};

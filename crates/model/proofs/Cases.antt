@@ -7,7 +7,6 @@ use Prim.Native.Nat.{ℕ}
 use lib.IntN.{ℤ, pos, negsuc}
 use lib.Dec.{T, eqb}
 use mir.Facts.{eqb_yes}
-use Rattle.model.specs.Lists
 use Rattle.model.specs.Lists.{all, is_byte, same_bytes, pad, ◌∈◌}
 use Rattle.model.specs.Label.{is_label, level, sizing, fabric, cost, includes, dominates}
 use Rattle.model.specs.Path.{same_step, valid_step, valid_path, key, former_key}

@@ -22,7 +22,7 @@ use Rattle.model.proofs.Rows.{Passes, passes-both}
 use Rattle.model.proofs.Operations.{admitted, outcome-either}
 use Rattle.model.proofs.Refusals.{outcome-by}
 use Rattle.model.proofs.Dividing.{even_is, even-one}
-use Rattle.model.proofs.Hidden.{present, missing, unseen-missing}
+use Rattle.model.proofs.HiddenSets.{present, missing, unseen-missing}
 
 -- the grade that a caller asks for
 abbrev pub grading : Caller → (base top : List ℕ) → ℕ → Call

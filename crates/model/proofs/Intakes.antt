@@ -23,7 +23,7 @@ use Rattle.model.proofs.Keeps.{ValidSets}
 use Rattle.model.proofs.Taking.{with-old, with_in, with-new, Taken, rows_taken, taken-coming}
 use Rattle.model.proofs.Operations.{Admitted, admitted}
 use Rattle.model.proofs.Refusals.{set_own, outcome-by}
-use Rattle.model.proofs.Hidden.{unseen-call}
+use Rattle.model.proofs.HiddenSets.{unseen-call}
 use Rattle.model.proofs.Ordering.{in_order, is_ordered}
 use Rattle.model.proofs.Readback.{took, tree-reads-back, ordered-text}
 

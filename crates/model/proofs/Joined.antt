@@ -11,7 +11,7 @@ use Rattle.model.specs.Label.{labels, is_label}
 use Rattle.model.specs.Partition.{partition_size}
 use Rattle.model.specs.Store.{store_size, partition_start, partition}
 use Rattle.model.proofs.Lists.{between-all, between_none, joins}
-use Rattle.model.proofs.Stores.{has, yes-has, partition-part}
+use Rattle.model.proofs.Stores.{yes-has, partition-part}
 use Rattle.model.proofs.Dominance.{label-lt, lt-label}
 
 -- what f gives for i, i + 1 and so on, as many bytes each as a partition has

@@ -28,7 +28,7 @@ pub mod Refusals
 pub mod Updates
 pub mod Making
 pub mod Intakes
-pub mod Hidden
+pub mod HiddenSets
 pub mod Marks
 pub mod Dividing
 pub mod Grades

@@ -10,7 +10,7 @@ use lib.Dec.{T, eqb}
 use mir.Facts.{eqb_yes, yes_eqb, T_not}
 use Rattle.model.specs.Lists.{same_bytes, gather}
 use Rattle.model.specs.Sets.{sorted, sort}
-use Rattle.model.specs.Label.{labels, is_label, dominates}
+use Rattle.model.specs.Label.{labels, is_label}
 use Rattle.model.specs.Path.{key, former_key, keys}
 use Rattle.model.specs.Element.{Element, rank, valid_element}
 use Rattle.model.specs.Partition.{partition_size, layout, read_partition, well_formed}
@@ -26,7 +26,7 @@ use Rattle.model.proofs.Order.{ascending-sorted, ascending-sort, ascending-uniqu
 use Rattle.model.proofs.Paths.{key-keyed, keys-injective}
 use Rattle.model.proofs.Partitions.{WellFormed, ValidSet, well-formed, yes-well-formed, length-layout, read-layout, layout-well-formed, layout-read, read-valid}
 use Rattle.model.proofs.Sets.{Closed, closed_facts, facts-closed, contains-more}
-use Rattle.model.proofs.Stores.{has, yes-has, length-partition}
+use Rattle.model.proofs.Stores.{yes-has, length-partition}
 use Rattle.model.proofs.Noninterference.{noninterference}
 use Rattle.model.proofs.Resorting.{resort-length, resort-alike}
 use Rattle.model.proofs.Bits.{bit-range}

@@ -31,7 +31,7 @@ pub left-start : {A B : Type 0} (g : ℕ → A) (f : List A → B) (c : ℕ) →
 left-start g f c = record { within = omega arith; same = let e : c - 0 ≡ c = omega arith in rw e }
 
 -- tests of which one must pass
-module _ {A : Type 0} {g : ℕ → A} {p : A → Bool} {w : Bool} {c i : ℕ} (inv : Left g (any p) w c i) where
+module _ {A : Type 0} {g : ℕ → A} (p : A → Bool) {w : Bool} {c i : ℕ} (inv : Left g (any p) w c i) where
   pub any-end : c ≤ i → false ≡ w
   any-end h = sym (inv.same ∙ ap (any p) (rest_end g c i h))
 

@@ -1,4 +1,6 @@
 // Bytes widened and joined, and small loops on byte slices.
+#![tactic(auto)]
+
 mod eights;
 
 ghost use Rattle.std.specs.Prelude.{◌≡◌, [], ◌∷◌, ◌++◌, ◌-◌, ◌≤◌, ◌<◌, length, take, drop, replicate};

@@ -1,10 +1,9 @@
 -- One label's references: the slots that stand together at the path's place.
 use mathlib.Core.Path.{◌≡◌, refl, sym, ap, ap₂, ◌∙◌}
-use mathlib.Core.Bool.{Bool, true, false, not, cond}
+use mathlib.Core.Bool.{Bool, true, false, cond}
 use mathlib.Core.List.{List, [], ◌∷◌, ◌++◌, map}
 use Prim.Native.Nat.{ℕ, zero, suc, ◌+◌, ◌*◌, ◌/◌, ◌%◌, ◌≤◌, ◌<◌}
 use native.Mathlib.Omega.{arith}
-use borrow.Author.Tests.{not-true, not-false}
 use lib.ListN.{length, take, drop}
 use lib.Seq.{take_at}
 use lib.Dec.{T, ltb}
@@ -88,15 +87,15 @@ root-run {x} f p h {k} g =
 -- ---- what was collected
 
 module _ {b : List ℕ} {s : ℕ} (o : Opened b s) (p : List Step) (n : ℕ) {r : Bool} (e : r ≡ dominates s n) where
-  pub none-collected : not r ≡ true → (refs : List ℕ) → Refers s b (take 0 refs) (seen_at s b p n)
+  pub none-collected : r ≡ false → (refs : List ℕ) → Refers s b (take 0 refs) (seen_at s b p n)
   unfolding seen_at
   none-collected t refs =
-      let q : dominates s n ≡ false = sym e ∙ not-true r t in
+      let q : dominates s n ≡ false = sym e ∙ t in
       record { valid = tt; named = sym (ap (λ (c : Bool). keep (λ d. is_prefix p d.path) (cond c (own_set n (open_model b)) [])) q) }
 
-  module _ (yes : not r ≡ false) where
+  module _ (yes : r ≡ true) where
     pub dominated : T (dominates s n)
-    dominated = let q : dominates s n ≡ true = sym e ∙ not-false r yes in rw q tt
+    dominated = let q : dominates s n ≡ true = sym e ∙ yes in rw q tt
 
     module _ {x : List ℕ} (g : (x ≡ partition n b) × (length x ≡ partition_size)) where
       pub formed : Formed x

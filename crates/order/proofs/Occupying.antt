@@ -4,7 +4,6 @@ use mathlib.Core.Bool.{Bool, true, false, not, cond}
 use mathlib.Core.List.{List, [], ◌∷◌, ◌++◌, append_assoc, append-nil}
 use Prim.Native.Nat.{ℕ, zero, suc, ◌+◌, ◌-◌, ◌≤◌, ◌<◌}
 use native.Mathlib.Omega.{arith}
-use borrow.Author.Tests.{not-true}
 use lib.ListN.{length, take, drop, set, length-append, length-set, length-take}
 use lib.Seq.{take_at, set_split, length-take-le}
 use lib.Dec.{T}
@@ -16,7 +15,7 @@ use Rattle.model.specs.Path.{Step, is_prefix}
 use Rattle.model.specs.Element.{Element, rank}
 use Rattle.model.specs.Model.{open_model, own_set}
 use Rattle.model.specs.View.{visible, seen_below}
-use Rattle.model.proofs.Bools.{decide, cond_no, is_true}
+use Rattle.model.proofs.Bools.{decide, cond_no, is_false}
 use Rattle.model.proofs.Lists.{range_last, range_split}
 use Rattle.model.proofs.Members.{keep_append, keep-gather}
 use Rattle.model.proofs.Dominance.{label-lt, dominates-le}
@@ -110,7 +109,7 @@ keep-none s b p i (suc c) h =
     decide (dominates s i)
     (λ (t : T (dominates s i)). absurd (let l : i ≤ s = dominates-le s i t in omega arith))
     (λ (t : T (not (dominates s i))).
-    let q : dominates s i ≡ false = not-true (dominates s i) (is_true (not (dominates s i)) t) in
+    let q : dominates s i ≡ false = is_false (dominates s i) t in
     rw q (keep-none s b p (suc i) c (omega arith)))
 
 pub fill_end : {s : ℕ} {b : List ℕ} {p : List Step} {found₀ found : List ℕ} {k n : ℕ} → Opened b s → Filled s b p found₀ found k n → s < n → (take k found ≡ keep (below_at s b p) labels) × (k ≤ 32)

@@ -1,5 +1,7 @@
 // The elements that a subject sees at or below a path, in path order: references to their slots, merged pairwise from the
 // ascending runs of the partitions that he dominates.
+#![tactic(auto)]
+
 mod occupied;
 
 ghost use Rattle.std.specs.Prelude.{◌≡◌, ◌++◌, map, ◌+◌, ◌*◌, ◌<◌, ◌≤◌, length, take, drop, T};

@@ -4,7 +4,6 @@ use mathlib.Core.Bool.{Bool, true, false, not, ◌&&◌, ◌||◌, or-false}
 use mathlib.Core.List.{List, [], ◌∷◌, map}
 use Prim.Native.Nat.{ℕ, zero, suc, ◌+◌, ◌-◌, ◌≤◌, ◌<◌}
 use native.Mathlib.Omega.{arith}
-use borrow.Author.Tests.{not-true, not-false}
 use lib.ListN.{length}
 use lib.Dec.{T, eqb, leb}
 use mir.Facts.{not_T, yes_ltb, leb_yes}
@@ -62,24 +61,24 @@ module _ (b : List ℕ) (n : ℕ) {d : ℕ} (e : (d ≡ depth b) × (d < 256)) w
 
 module _ (k : Step → List ℕ) (n : ℕ) (a b : List ℕ) {s : ℕ} {t : Bool} (m : ComparedBy k (read_path a) (read_path b) s t) where
   -- where a's path does not come before b's, b may not follow a
-  pub not_after : not t ≡ true → false ≡ may_follow k n (read_path a) (read_path b)
+  pub not_after : t ≡ false → false ≡ may_follow k n (read_path a) (read_path b)
   unfolding may_follow
-  not_after h = let q : is_before_by k (read_path a) (read_path b) ≡ false = sym m.before-is ∙ not-true t h in rw q
+  not_after h = let q : is_before_by k (read_path a) (read_path b) ≡ false = sym m.before-is ∙ h in rw q
 
-  module _ (after : not t ≡ false) {r : Bool} (f : r ≡ ends_in n (parent (read_path b))) where
+  module _ (after : t ≡ true) {r : Bool} (f : r ≡ ends_in n (parent (read_path b))) where
     order : is_before_by k (read_path a) (read_path b) ≡ true
-    order = sym m.before-is ∙ not-false t after
+    order = sym m.before-is ∙ after
 
     -- where it does and b's parent does not end in n, b may follow
-    pub free-parent : not r ≡ true → true ≡ may_follow k n (read_path a) (read_path b)
+    pub free-parent : r ≡ false → true ≡ may_follow k n (read_path a) (read_path b)
     unfolding may_follow
-    free-parent h = let q : ends_in n (parent (read_path b)) ≡ false = sym f ∙ not-true r h in rw (order, q)
+    free-parent h = let q : ends_in n (parent (read_path b)) ≡ false = sym f ∙ h in rw (order, q)
 
     -- where b's parent ends in n, b may follow if all its steps but the last are shared
-    pub shared-parent : not r ≡ false → {d : ℕ} → (d ≡ depth b) × (d < 256) → leb d (s + 1) ≡ may_follow k n (read_path a) (read_path b)
+    pub shared-parent : r ≡ true → {d : ℕ} → (d ≡ depth b) × (d < 256) → leb d (s + 1) ≡ may_follow k n (read_path a) (read_path b)
     unfolding may_follow
     shared-parent h {d} e =
-        let q : ends_in n (parent (read_path b)) ≡ true = sym f ∙ not-false r h in
+        let q : ends_in n (parent (read_path b)) ≡ true = sym f ∙ h in
         let l : length (read_path b) ≡ d = length-path b ∙ sym e.0 in
         let z : s + 1 ≡ suc s = omega arith in
         sym (rw (order, q) (common-parent (read_path a) (read_path b) ∙ ap₂ leb l (ap suc (sym m.shared-is) ∙ sym z)))
@@ -102,11 +101,11 @@ good-all k n p (b ∷ bs) =
     ∙ crossed (valid_element n (read_slot b) && unused_zero b) (may_follow k n p (read_path b)) (all (valid_element n) (map read_slot bs) && all unused_zero bs) (linked k n (read_path b) (map read_slot bs))
     ∙ ap (λ (x : Bool). x && linked k n p (map read_slot (b ∷ bs))) (crossed (valid_element n (read_slot b)) (unused_zero b) (all (valid_element n) (map read_slot bs)) (all unused_zero bs))
 
-falsely : (r x : Bool) → r ≡ x → not r ≡ true → T x → ⊥
-falsely r x e t h = let f : x ≡ false = sym e ∙ not-true r t in rw f at h
+falsely : (r x : Bool) → r ≡ x → r ≡ false → T x → ⊥
+falsely r x e t h = let f : x ≡ false = sym e ∙ t in rw f at h
 
-truly : (r x : Bool) → r ≡ x → not r ≡ false → T x
-truly r x e t = let f : x ≡ true = sym e ∙ not-false r t in rw f tt
+truly : (r x : Bool) → r ≡ x → r ≡ true → T x
+truly r x e t = let f : x ≡ true = sym e ∙ t in rw f tt
 
 -- a partition that lacks one of these is not well formed
 module _ (k : Step → List ℕ) (n : ℕ) (b : List ℕ) where
@@ -118,17 +117,17 @@ module _ (k : Step → List ℕ) (n : ℕ) (b : List ℕ) where
   too_many h = refuted (λ w. omega (arith, w.few))
 
   -- a byte behind the count that is not zero
-  pub head-used : {r : Bool} → r ≡ all_zero (between 1 slots_at b) → not r ≡ true → false ≡ well_formed_by k n b
+  pub head-used : {r : Bool} → r ≡ all_zero (between 1 slots_at b) → r ≡ false → false ≡ well_formed_by k n b
   head-used {r} e t = refuted (λ w. falsely r (all_zero (between 1 slots_at b)) e t w.head)
 
   -- a byte behind the used slots that is not zero
-  pub spare-used : {c : ℕ} {r : Bool} → (c ≡ count b) × (c < 256) → r ≡ all_zero (between (slot_start c) partition_size b) → not r ≡ true → false ≡ well_formed_by k n b
+  pub spare-used : {c : ℕ} {r : Bool} → (c ≡ count b) × (c < 256) → r ≡ all_zero (between (slot_start c) partition_size b) → r ≡ false → false ≡ well_formed_by k n b
   spare-used {c} {r} f e t = refuted (λ w. falsely r (all_zero (between (slot_start c) partition_size b)) e t (rw f.0 w.spare))
 
 -- where all this is found, the slots decide
 pub formed-by-slots : {k : Step → List ℕ} → Keyed k → (n : ℕ) (b : List ℕ) {c : ℕ} {r s : Bool} → length b ≡ partition_size → T (all is_byte b) → n < 32
-    → (c ≡ count b) × (c < 256) → c ≤ 32 → r ≡ all_zero (between 1 slots_at b) → not r ≡ false
-    → s ≡ all_zero (between (slot_start c) partition_size b) → not s ≡ false → good_slots k n [] (slots b) ≡ well_formed_by k n b
+    → (c ≡ count b) × (c < 256) → c ≤ 32 → r ≡ all_zero (between 1 slots_at b) → r ≡ true
+    → s ≡ all_zero (between (slot_start c) partition_size b) → s ≡ true → good_slots k n [] (slots b) ≡ well_formed_by k n b
 unfolding read_partition is_label
 formed-by-slots {k} good n b {c} {r} {s} size bytes small e few f t g u =
     same_test (good_slots k n [] (slots b)) (well_formed_by k n b)
@@ -183,11 +182,11 @@ root-follow {k} good n (a ∷ q) h = rw (before-some k good a q) (go (parent (a 
 -- slot x of the partition, found valid or not
 module _ (n : ℕ) {x b : List ℕ} {v : Bool} (e : (x ≡ b) × (length x ≡ slot_size)) (f : v ≡ valid_slot n x) where
   -- a slot that is not valid is not good
-  pub slot-bad : (k : Step → List ℕ) (p : List Step) → not v ≡ true → false ≡ good_slot k n p b
+  pub slot-bad : (k : Step → List ℕ) (p : List Step) → v ≡ false → false ≡ good_slot k n p b
   unfolding good_slot
-  slot-bad k p t = let q : valid_slot n b ≡ false = ap (valid_slot n) (sym e.0) ∙ sym f ∙ not-true v t in rw q
+  slot-bad k p t = let q : valid_slot n b ≡ false = ap (valid_slot n) (sym e.0) ∙ sym f ∙ t in rw q
 
-  module _ (yes : not v ≡ false) where
+  module _ (yes : v ≡ true) where
     valid : T (valid_slot n x)
     valid = truly v (valid_slot n x) f yes
 
@@ -250,11 +249,11 @@ module _ {k : Step → List ℕ} {b : List ℕ} {n c i : ℕ} (inv : Linking k b
         ∙ ap (λ (x : Bool). x && good_slots k n (read_path (slot_at b i)) (rest (slot_at b) c (i + 1))) (sym e ∙ f)
 
     -- where slot i is not good, not all are
-    pub link-fails : not r ≡ true → false ≡ good_slots k n [] (slots b)
-    link-fails t = sym (here false (not-true r t))
+    pub link-fails : r ≡ false → false ≡ good_slots k n [] (slots b)
+    link-fails t = sym (here false t)
 
     -- where it is, so it is at the next slot
-    pub link-next : not r ≡ false → Linking k b n c (i + 1)
+    pub link-next : r ≡ true → Linking k b n c (i + 1)
     unfolding good_slot
     link-next t =
         let z : i + 1 ≡ suc i = omega arith in
@@ -262,5 +261,5 @@ module _ {k : Step → List ℕ} {b : List ℕ} {n c i : ℕ} (inv : Linking k b
         record {
           within = omega arith;
           deep = λ j q. let s : j ≡ i = omega arith in rw s (valid-steps n (slot_at b i) (and_l (valid_slot n (slot_at b i)) _ g));
-          same = here true (not-false r t) ∙ ap (λ (m : ℕ). good_slots k n (path_before b m) (rest (slot_at b) c (i + 1))) (sym z);
+          same = here true t ∙ ap (λ (m : ℕ). good_slots k n (path_before b m) (rest (slot_at b) c (i + 1))) (sym z);
         }

@@ -4,7 +4,7 @@ use mathlib.Core.Bool.{Bool, true, false, not, cond, ◌&&◌}
 use mathlib.Core.List.{List, [], ◌∷◌, ◌++◌, map}
 use Prim.Native.Nat.{ℕ, zero, suc, ◌+◌, ◌-◌, ◌/◌, ◌≤◌, ◌<◌}
 use native.Mathlib.Omega.{arith}
-use borrow.Author.Tests.{not-true, not-false, eq-eqb, ne_eqb, le-leb, lt-leb, lt-ltb}
+use borrow.Author.Tests.{eq-eqb, ne_eqb, le-leb, lt-leb, lt-ltb}
 use lib.ListN.{length, take, drop, length-drop}
 use lib.Seq.{drop_at}
 use native.Mathlib.Decide.{dec_le}
@@ -165,14 +165,14 @@ module _ {b : List ℕ} {p : List Step} {c i : ℕ} (inv : Finding b p c i) wher
       unfolding read_slot
       is-before = m.before-is ∙ ap (λ (l : List ℕ). is_before (read_path l) p) d.0
 
-      pub find-next : not t ≡ false → Finding b p c (i + 1)
-      find-next u = find-step (sym is-before ∙ not-false t u)
+      pub find-next : t ≡ true → Finding b p c (i + 1)
+      find-next u = find-step (sym is-before ∙ u)
 
       -- where it does not, this is the place
-      pub find-here : not t ≡ true → {r : Bool} → r ≡ same_path p (read_path x) → Found b p i r
+      pub find-here : t ≡ false → {r : Bool} → r ≡ same_path p (read_path x) → Found b p i r
       unfolding read_slot
       find-here u g =
-          let y : is_before (element_at b i).path p ≡ false = sym is-before ∙ not-true t u in
+          let y : is_before (element_at b i).path p ≡ false = sym is-before ∙ u in
           record {
             at-is = sym (inv.place ∙ ap (λ es. i + place_of p es) here ∙ rw y (omega arith));
             found-is =
@@ -214,10 +214,10 @@ module _ {b : List ℕ} (f : Formed b) (p : List Step) where
 
   -- slot k, read as x, compared with the path: a search may begin behind it, if it comes before the path
   pub behind-start : {k : ℕ} → k < count b → {x : List ℕ} → (x ≡ slot_at b k) × (length x ≡ slot_size) → {s : ℕ} {t : Bool} → Compared (read_path x) p s t
-      → not t ≡ false → k + 1 ≤ place_of p (read_partition b)
+      → t ≡ true → k + 1 ≤ place_of p (read_partition b)
   unfolding read_slot
   behind-start {k} h d {s} {t} m u =
-      place-behind k h (subst (λ (y : Bool). T y) (sym (not-false t u) ∙ m.before-is ∙ ap (λ (l : List ℕ). is_before (read_path l) p) d.0) tt)
+      place-behind k h (subst (λ (y : Bool). T y) (sym u ∙ m.before-is ∙ ap (λ (l : List ℕ). is_before (read_path l) p) d.0) tt)
 
 -- ---- the elements at a path's place that have it or extend it
 

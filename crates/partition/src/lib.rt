@@ -1,4 +1,6 @@
 // Partitions: the 1,284 bytes of one label.
+#![tactic(auto)]
+
 ghost use Rattle.std.specs.Prelude.{◌≡◌, [], ◌++◌, ℕ, ◌+◌, ◌<◌, ◌≤◌, length, take, drop};
 ghost use Rattle.model.specs.Lists.{any, all_zero, between};
 ghost use Rattle.model.specs.Path.{same_path, is_prefix, parent, ends_in, steps_of, former_key};

@@ -5,7 +5,7 @@ use mathlib.Core.List.{List, [], ◌∷◌, ◌++◌}
 use Prim.Native.Nat.{ℕ, suc, ◌+◌, ◌-◌, ◌≤◌, ◌<◌, min}
 use native.Mathlib.Omega.{arith}
 use native.Mathlib.Decide.{dec_lt}
-use borrow.Author.Tests.{not-true, not-false, lt-ltb, le-ltb}
+use borrow.Author.Tests.{lt-ltb, le-ltb}
 use lib.ListN.{length, take}
 use lib.Dec.{T, eqb, leb, ltb, eqb-suc-suc, eqb-zero-suc, eqb-suc-zero, leb-zero, leb-suc-zero, leb-suc-suc}
 use mir.Facts.{eqb_yes, yes_eqb}
@@ -118,18 +118,18 @@ module _ {k : Step → List ℕ} (good : Keyed k) {f g : ℕ → Step} {x y i : 
     more-y = rest_more g y i hy
 
     -- steps that differ decide
-    pub share-differ : not r ≡ true → {t : Bool} → t ≡ precedes (k (f i)) (k (g i)) → ComparedBy k (range f 0 x) (range g 0 y) i t
+    pub share-differ : r ≡ false → {t : Bool} → t ≡ precedes (k (f i)) (k (g i)) → ComparedBy k (range f 0 x) (range g 0 y) i t
     share-differ d e =
-        let s : same_step (f i) (g i) ≡ false = sym told ∙ not-true r d in
+        let s : same_step (f i) (g i) ≡ false = sym told ∙ d in
         record {
           shared-is = sym (inv.same ∙ rw (more-x, more-y, common-differ (f i) (g i) (rest f x (i + 1)) (rest g y (i + 1)) s) (omega arith));
           before-is = sym (inv.order ∙ ap₂ (is_before_by k) more-x more-y ∙ before-differ k good (f i) (g i) (rest f x (i + 1)) (rest g y (i + 1)) s ∙ sym e);
         }
 
     -- steps that are the same lead to the next
-    pub share-next : not r ≡ false → Sharing k f g x y (i + 1)
+    pub share-next : r ≡ true → Sharing k f g x y (i + 1)
     share-next e =
-        let s : same_step (f i) (g i) ≡ true = sym told ∙ not-false r e in
+        let s : same_step (f i) (g i) ≡ true = sym told ∙ e in
         record {
           within-x = omega arith;
           within-y = omega arith;

@@ -1,13 +1,13 @@
 -- The steps of a path, walked one by one: a lent path as a range, ascending labels by the label before, and keys as numbers.
 use mathlib.Core.Path.{◌≡◌, refl, sym, ap, ap₂, ◌∙◌}
 use mathlib.Core.Logic.{◌≢◌}
-use mathlib.Core.Bool.{Bool, true, false, not, ◌&&◌}
+use mathlib.Core.Bool.{Bool, true, false, ◌&&◌}
 use mathlib.Core.Option.{some}
 use mathlib.Core.List.{List, [], ◌∷◌}
 use Prim.Native.Nat.{ℕ, zero, suc, ◌+◌, ◌-◌, ◌*◌, ◌/◌, ◌%◌, ◌≤◌, ◌<◌}
 use native.Mathlib.Omega.{arith}
 use native.Mathlib.Decide.{dec_lt}
-use borrow.Author.Tests.{not-true, not-false, le-leb, lt-leb, eq-eqb, ne_eqb, lt-ltb, le-ltb}
+use borrow.Author.Tests.{le-leb, lt-leb, eq-eqb, ne_eqb, lt-ltb, le-ltb}
 use lib.ListN.{length, get_or, drop}
 use lib.Dec.{T, eqb, ltb}
 use mir.Facts.{eqb_yes, ltb_yes, leb_yes}
@@ -138,14 +138,14 @@ module _ {g : ℕ → Step} {w : Bool} {c l i : ℕ} (inv : Following g w c l i)
     follow-here : w ≡ (r && all_follow (g i).label (rest g c (i + 1)))
     follow-here = inv.same ∙ ap (all_follow l) (rest_more g c i h) ∙ rw e
 
-    pub follow-fails : not r ≡ true → false ≡ w
-    follow-fails t = sym (follow-here ∙ ap (λ (x : Bool). x && all_follow (g i).label (rest g c (i + 1))) (not-true r t))
+    pub follow-fails : r ≡ false → false ≡ w
+    follow-fails t = sym (follow-here ∙ ap (λ (x : Bool). x && all_follow (g i).label (rest g c (i + 1))) t)
 
-    pub follow-next : not r ≡ false → {k : ℕ} → k ≡ (g i).label → Following g w c k (i + 1)
+    pub follow-next : r ≡ true → {k : ℕ} → k ≡ (g i).label → Following g w c k (i + 1)
     follow-next t {k} f =
         record {
           within = omega arith;
-          same = follow-here ∙ ap₂ (λ (x : Bool) (n : ℕ). x && all_follow n (rest g c (i + 1))) (not-false r t) (sym f);
+          same = follow-here ∙ ap₂ (λ (x : Bool) (n : ℕ). x && all_follow n (rest g c (i + 1))) t (sym f);
         }
 
 -- ---- keys as numbers

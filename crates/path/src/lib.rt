@@ -1,4 +1,6 @@
 // Paths that a caller lends, three bytes a step, the name lowest byte first, then the label; and the keys by which steps are ordered.
+#![tactic(auto)]
+
 ghost use Rattle.std.specs.Prelude.{◌≡◌, ◌+◌, ◌-◌, ◌*◌, ◌≤◌, ◌<◌, length, T};
 ghost use Rattle.model.specs.Path.{ends_in, steps_of, key, former_key};
 ghost use Rattle.model.specs.Rows.{good_path};

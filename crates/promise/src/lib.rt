@@ -1,1 +1,2 @@
 // What the calls promise, and noninterference of the code: definitions and laws alone (specs/, proofs/).
+#![tactic(auto)]

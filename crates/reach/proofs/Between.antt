@@ -10,7 +10,7 @@ use lib.Seq.{length-take-le}
 use lib.Dec.{T}
 use mir.Facts.{not_T, T_not}
 use Rattle.model.specs.Path.{Step, same_step, is_prefix, key, path_rank}
-use Rattle.model.proofs.Bools.{and_l, and_r, both, is_true}
+use Rattle.model.proofs.Bools.{and_l, and_r, is_true}
 use Rattle.model.proofs.Order.{precedes-trans}
 use Rattle.model.proofs.Paths.{step-eq, key-keyed, between-extends}
 use Rattle.model.proofs.Prefixes.{prefix-take, prefix-before}

@@ -1,4 +1,6 @@
 // How far elements reach along a lent path: its first steps that some of them share, and those that stand before the steps of a label.
+#![tactic(auto)]
+
 ghost use Rattle.std.specs.Prelude.{◌≡◌, max};
 ghost use Rattle.model.specs.Path.{steps_of};
 ghost use Rattle.model.specs.Partition.{read_partition};

@@ -1,4 +1,6 @@
 // What stands at a place of a text: a byte, given bytes, a number in decimal, with or without a sign.
+#![tactic(auto)]
+
 mod numbers;
 mod signed;
 

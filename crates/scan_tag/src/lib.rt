@@ -1,4 +1,6 @@
 // Tags as they stand in a text. What a start tag shows of an element is a number: its kind, 0 to 2, or 3 if it is removed.
+#![tactic(auto)]
+
 ghost use Rattle.std.specs.Prelude.{◌≤◌, ◌<◌, length};
 ghost use Rattle.scan_tag.specs.Tags.{LetterAt, MarkAt, BehindAt, TagAt, EndAt};
 

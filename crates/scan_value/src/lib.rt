@@ -1,4 +1,6 @@
 // Values as they stand in a text between two tags.
+#![tactic(auto)]
+
 ghost use Rattle.std.specs.Prelude.{◌≡◌, ◌≤◌, T, length, drop};
 ghost use Rattle.scan.specs.Text.{begins};
 ghost use Rattle.scan_value.specs.Values.{CharAt, is_plain, ValueAt, NothingAt};

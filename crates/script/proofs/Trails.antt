@@ -312,8 +312,8 @@ pathed-unique (a ∷ []) (b ∷ []) x y =
     (ap (λ (c : Step). c ∷ []) u.0, u.1)
 pathed-unique (a ∷ []) (b ∷ d ∷ q) x y = absurd (rw (stepped-unique (path-first a [] x) (path-first b (d ∷ q) y)).1 at x.ends)
 pathed-unique (a ∷ c ∷ p) (b ∷ []) x y = absurd (rw (stepped-unique (path-first b [] y) (path-first a (c ∷ p) x)).1 at y.ends)
-pathed-unique (a ∷ c ∷ p) (b ∷ d ∷ q) {r} {s} x y =
+pathed-unique {l = l} (a ∷ c ∷ p) (b ∷ d ∷ q) {r = r} {s = s} x y =
     let u = stepped-unique (path-first a (c ∷ p) x) (path-first b (d ∷ q) y) in
     let e : path_text (c ∷ p) ++ r ≡ path_text (d ∷ q) ++ s = cc u.1 in
-    let w = pathed-unique (c ∷ p) (d ∷ q) (path-others x refl) (path-others y e) in
+    let w = pathed-unique {l = path_text (c ∷ p) ++ r} (c ∷ p) (d ∷ q) (path-others x refl) (path-others y e) in
     (ap₂ (λ (k : Step) (o : List Step). k ∷ o) u.0 w.0, w.1)

@@ -1,4 +1,6 @@
 // A script line read into a call (document 01, "The printed view and the call runner").
+#![tactic(auto)]
+
 ghost use Rattle.std.specs.Prelude.{◌≤◌, length, drop, T};
 ghost use Rattle.model.specs.Script.{Reading};
 ghost use Rattle.script.specs.Text.{closes};

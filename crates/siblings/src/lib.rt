@@ -1,4 +1,6 @@
 // Elements that stand beside each other in a text: whether no two are equal in name and label.
+#![tactic(auto)]
+
 mod blocks;
 mod keys;
 mod skips;

@@ -1,10 +1,9 @@
 -- A slot read step by step, and how long its path and its value are.
 use mathlib.Core.Path.{◌≡◌, sym, ap, ◌∙◌}
-use mathlib.Core.Bool.{Bool, not, false, ◌&&◌}
+use mathlib.Core.Bool.{Bool, ◌&&◌, true}
 use mathlib.Core.List.{List}
 use Prim.Native.Nat.{ℕ, ◌+◌, ◌-◌, ◌/◌, ◌≤◌, ◌<◌, min}
 use native.Mathlib.Omega.{arith}
-use borrow.Author.Tests.{not-false}
 use lib.ListN.{length, drop, length-take, length-drop}
 use lib.Dec.{T}
 use mir.Facts.{leb_yes}
@@ -40,17 +39,17 @@ storable-short b t size =
     omega arith
 
 -- a valid path and content are short
-module _ (n : ℕ) (b : List ℕ) {r : Bool} (f : r ≡ (valid_path (read_path b) && ends_in n (read_path b))) (yes : not r ≡ false)
-    {q : Bool} (g : q ≡ storable (read_content b)) (good : not q ≡ false) where
+module _ (n : ℕ) (b : List ℕ) {r : Bool} (f : r ≡ (valid_path (read_path b) && ends_in n (read_path b))) (yes : r ≡ true)
+    {q : Bool} (g : q ≡ storable (read_content b)) (good : q ≡ true) where
   pub short-steps : depth b ≤ 6
   unfolding valid_path
   short-steps =
-      let t : T (valid_path (read_path b) && ends_in n (read_path b)) = rw (sym f ∙ not-false r yes) tt in
+      let t : T (valid_path (read_path b) && ends_in n (read_path b)) = rw (sym f ∙ yes) tt in
       let k : length (read_path b) ≤ 6 = leb_yes (search (and_l, and_r)) in
       rw (length-path b) at k
 
   pub short-value : length b ≡ slot_size → value_length b ≤ 16
-  short-value size = storable-short b (rw (sym g ∙ not-false q good) tt) size
+  short-value size = storable-short b (rw (sym g ∙ good) tt) size
 
 -- ---- comparisons
 

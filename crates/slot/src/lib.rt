@@ -1,4 +1,6 @@
 // Slots, the 40 bytes of one element: their fields read, and their paths compared.
+#![tactic(auto)]
+
 ghost use Rattle.std.specs.Prelude.{◌≡◌, ◌+◌, ◌*◌, ◌<◌, ◌≤◌, min, length};
 ghost use Rattle.model.specs.Sets.{precedes};
 ghost use Rattle.model.specs.Path.{same_step, steps_of, key};

@@ -4,7 +4,7 @@ use mathlib.Core.Bool.{Bool, true, false, not, ◌&&◌, and_assoc}
 use mathlib.Core.List.{List}
 use Prim.Native.Nat.{ℕ, zero, suc, ◌+◌, ◌-◌, ◌*◌, ◌≤◌, ◌<◌, max}
 use native.Mathlib.Omega.{arith}
-use borrow.Author.Tests.{not-true, not-false, lt-ltb, le-ltb}
+use borrow.Author.Tests.{lt-ltb, le-ltb}
 use lib.ListN.{length, drop, get_or}
 use lib.Seq.{drop_at}
 use lib.Dec.{T, eqb, ltb}
@@ -85,17 +85,17 @@ module _ {g : ℕ → Step} {w : Bool} {d l i : ℕ} (inv : Standing g w d l i) 
     here : w ≡ (r && behind)
     here = decide (ltb i d) (λ (t : T (ltb i d)). used-here (ltb_yes t)) (λ (t : T (not (ltb i d))). unused-here (ltb_no t))
 
-    pub stand-fails : not r ≡ true → false ≡ w
-    stand-fails t = sym (here ∙ ap (λ (x : Bool). x && behind) (not-true r t))
+    pub stand-fails : r ≡ false → false ≡ w
+    stand-fails t = sym (here ∙ ap (λ (x : Bool). x && behind) t)
 
-    pub stand-next : not r ≡ false → {k : ℕ} → k ≡ (g i).label → Standing g w d k (i + 1)
+    pub stand-next : r ≡ true → {k : ℕ} → k ≡ (g i).label → Standing g w d k (i + 1)
     stand-next t {k} f =
         record {
           within = omega arith;
           few = inv.few;
           same =
               here
-              ∙ ap₂ (λ (x : Bool) (n : ℕ). x && (all_follow n (rest g d (i + 1)) && all no_step (rest g 6 (max d (i + 1))))) (not-false r t) (sym f);
+              ∙ ap₂ (λ (x : Bool) (n : ℕ). x && (all_follow n (rest g d (i + 1)) && all no_step (rest g 6 (max d (i + 1))))) t (sym f);
         }
 
 -- ---- the bytes of the places

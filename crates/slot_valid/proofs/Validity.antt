@@ -4,7 +4,7 @@ use mathlib.Core.Bool.{Bool, true, false, not, ◌&&◌, and_assoc, and_comm}
 use mathlib.Core.List.{List}
 use Prim.Native.Nat.{ℕ, ◌+◌, ◌-◌, ◌≤◌, ◌<◌, min}
 use native.Mathlib.Omega.{arith}
-use borrow.Author.Tests.{not-true, not-false, le-leb, lt-leb}
+use borrow.Author.Tests.{le-leb, lt-leb}
 use lib.ListN.{length, drop, get_or, length-take, length-drop}
 use lib.Dec.{T, eqb, leb}
 use Rattle.model.specs.Lists.{range, all_zero, between}
@@ -55,15 +55,15 @@ module _ (b : List ℕ) (n : ℕ) {d : ℕ} (e : (d ≡ depth b) × (d < 256)) w
           last-two true y z = and_comm y z
           last-two false y z = refl
 
-      pub path-unfit : not r ≡ true → false ≡ path_valid n b
-      path-unfit t = sym (by-steps ∙ ap (λ (x : Bool). x && ends_in n (read_path b)) (not-true r t))
+      pub path-unfit : r ≡ false → false ≡ path_valid n b
+      path-unfit t = sym (by-steps ∙ ap (λ (x : Bool). x && ends_in n (read_path b)) t)
 
-      pub path-ends : not r ≡ false → {l : ℕ} → l ≡ (step_at b (d - 1)).label → eqb l n ≡ path_valid n b
+      pub path-ends : r ≡ true → {l : ℕ} → l ≡ (step_at b (d - 1)).label → eqb l n ≡ path_valid n b
       unfolding read_path
       path-ends t g =
           sym
           (by-steps
-          ∙ ap (λ (x : Bool). x && ends_in n (read_path b)) (not-false r t)
+          ∙ ap (λ (x : Bool). x && ends_in n (read_path b)) t
           ∙ ap (λ (c : ℕ). ends_in n (range (step_at b) 0 c)) (sym e.0)
           ∙ ends-range (step_at b) d n some g)
 
@@ -99,20 +99,20 @@ module _ (n : ℕ) (b : List ℕ) {r : Bool} (f : r ≡ path_valid n b) where
       ∙ sym (and_assoc (path_valid n b) (storable (read_content b)) (rest_zero b))
       ∙ ap (λ (t : Bool). (t && storable (read_content b)) && rest_zero b) (sym f))
 
-  pub no-path : not r ≡ true → false ≡ valid_slot n b
-  no-path t = sym (whole ∙ ap (λ (x : Bool). (x && storable (read_content b)) && rest_zero b) (not-true r t))
+  pub no-path : r ≡ false → false ≡ valid_slot n b
+  no-path t = sym (whole ∙ ap (λ (x : Bool). (x && storable (read_content b)) && rest_zero b) t)
 
-  pub path-good : not r ≡ false → true ≡ (valid_path (read_path b) && ends_in n (read_path b))
+  pub path-good : r ≡ true → true ≡ (valid_path (read_path b) && ends_in n (read_path b))
   path-good t =
-      let y : T (path_valid n b) = rw (sym f ∙ not-false r t) tt in
+      let y : T (path_valid n b) = rw (sym f ∙ t) tt in
       sym (is_true _ (and_l (valid_path (read_path b) && ends_in n (read_path b)) (steps_zero b) y))
 
-  module _ (yes : not r ≡ false) {q : Bool} (g : q ≡ storable (read_content b)) where
+  module _ (yes : r ≡ true) {q : Bool} (g : q ≡ storable (read_content b)) where
     then : valid_slot n b ≡ (q && rest_zero b)
-    then = whole ∙ ap₂ (λ (x y : Bool). (x && y) && rest_zero b) (not-false r yes) (sym g)
+    then = whole ∙ ap₂ (λ (x y : Bool). (x && y) && rest_zero b) yes (sym g)
 
-    pub no-content : not q ≡ true → false ≡ valid_slot n b
-    no-content t = sym (then ∙ ap (λ (x : Bool). x && rest_zero b) (not-true q t))
+    pub no-content : q ≡ false → false ≡ valid_slot n b
+    no-content t = sym (then ∙ ap (λ (x : Bool). x && rest_zero b) t)
 
-    pub by-rest : not q ≡ false → {u : Bool} → u ≡ rest_zero b → u ≡ valid_slot n b
-    by-rest good h = h ∙ sym (then ∙ ap (λ (x : Bool). x && rest_zero b) (not-false q good))
+    pub by-rest : q ≡ true → {u : Bool} → u ≡ rest_zero b → u ≡ valid_slot n b
+    by-rest good h = h ∙ sym (then ∙ ap (λ (x : Bool). x && rest_zero b) good)

@@ -1,4 +1,6 @@
 // Whether the 40 bytes of a slot hold a valid element of a label.
+#![tactic(auto)]
+
 ghost use Rattle.std.specs.Prelude.{◌≡◌, ◌&&◌, ◌<◌, ◌≤◌, length};
 ghost use Rattle.model.specs.Path.{ends_in, valid_path};
 ghost use Rattle.model.specs.Value.{storable};

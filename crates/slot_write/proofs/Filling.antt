@@ -4,7 +4,7 @@ use mathlib.Core.List.{List, [], ◌∷◌, ◌++◌, map, map-append, append-ni
 use Prim.Native.Nat.{ℕ, suc, ◌+◌, ◌-◌, ◌*◌, ◌/◌, ◌%◌, ◌≤◌, ◌<◌}
 use native.Mathlib.Omega.{arith}
 use lib.ListN.{length, take, drop, get_or, set, replicate, replicate-append-replicate, length-append, length-set, length-replicate, length-map, drop_of_length-le}
-use lib.Seq.{take_all, take_at, take-suc-set, drop-drop, drop-length, append_snoc, set_at}
+use lib.Seq.{take_at, take-suc-set, drop-drop, drop-length, append_snoc, set_at}
 use borrow.Rule.Slice.PartMut.{put_mid}
 use Rattle.model.specs.Lists.{gather, range, pad}
 use Rattle.model.specs.Path.{Step, steps_of}
@@ -31,11 +31,11 @@ pad-none n = let z : n - 0 ≡ n = omega arith in sym (pad-short n [] (omega ari
 
 -- a value written over the zeros of a field and of one behind it
 pub value-padded : (m n : ℕ) (xs v : List ℕ) {z s : List ℕ} → length xs ≡ m + n → length v ≤ m → z ≡ replicate (length xs) 0
-    → s ≡ take (length v) v ++ drop (length v) z → s ≡ pad m v ++ pad n []
+    → s ≡ v ++ drop (length v) z → s ≡ pad m v ++ pad n []
 value-padded m n xs v l h e f =
     let k : m + n - length v ≡ m - length v + n = omega arith in
     f
-    ∙ rw (e, l, take_all (length v) v (omega arith), drop-replicate (length v) (m + n), k, ← (pad-none n), pad-short m v h, append_assoc)
+    ∙ rw (e, l, drop-replicate (length v) (m + n), k, ← (pad-none n), pad-short m v h, append_assoc)
     (ap (λ (r : List ℕ). v ++ r) (sym (replicate-append-replicate {A = ℕ} (m - length v) n 0)))
 
 -- one byte more

@@ -1,4 +1,6 @@
 // Slots written in place, field by field; what a field leaves unused is 0.
+#![tactic(auto)]
+
 ghost use Rattle.std.specs.Prelude.{◌≡◌, [], ◌++◌, map, ◌-◌, ◌≤◌, length, take, replicate};
 ghost use Rattle.model.specs.Lists.{gather};
 ghost use Rattle.model.specs.Path.{steps_of};
@@ -47,7 +49,7 @@ fn write_value(s: &mut [u8], value: &[u8])
     ensures { s.new ≡ field value_at spare_at value.now ++ field spare_at slot_size [] }
 {
     clear(s);
-    bytes::copy(value, s);
+    s[..value.len()].copy_from_slice(value);
 }
 
 // Writes another kind and value to a slot, whose path stays.

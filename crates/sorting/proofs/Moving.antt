@@ -1,13 +1,13 @@
 -- A slot moved behind others, as bytes and as elements, and put to its place so.
-use mathlib.Core.Path.{◌≡◌, refl, sym, ap, ap₂, ◌∙◌}
+use mathlib.Core.Path.{◌≡◌, sym, ap, ap₂, ◌∙◌}
 use mathlib.Core.List.{List, [], ◌∷◌, ◌++◌, append_assoc, append-nil}
 use Prim.Native.Nat.{ℕ, ◌+◌, ◌-◌, ◌*◌, ◌≤◌, ◌<◌}
 use native.Mathlib.Omega.{arith}
-use borrow.Rule.Slice.PartMut.{put_mid, mid_len, Post-is}
-use lib.ListN.{length, take, drop, replicate, length-append, length-drop, drop_of_length-le, take-append-drop}
-use lib.Seq.{take_all, take_at, drop_at, drop-drop, length-take-le}
+use borrow.Rule.Slice.PartMut.{put_mid, Post-is}
+use lib.ListN.{length, take, drop, replicate, length-append, length-drop, take-append-drop}
+use lib.Seq.{take_at, drop_at, drop-drop, length-take-le}
 use Rattle.model.specs.Lists.{gather, between}
-use Rattle.model.specs.Sets.{put, sorted, sort}
+use Rattle.model.specs.Sets.{put, sort}
 use Rattle.model.specs.Element.{Element, rank}
 use Rattle.model.specs.Slot.{slot_size, slot_bytes, read_slot}
 use Rattle.model.specs.Partition.{layout, count, slot_start, read_partition}
@@ -20,39 +20,6 @@ use Rattle.partition.proofs.Placing.{put-place}
 use Rattle.partition.proofs.Finding.{element_at, elements-from, length-read}
 use Rattle.partition.proofs.Layouts.{layout-joined}
 use Rattle.sorting.specs.Sorting.{Laid, SortedBehind, place_behind, moved}
-
--- ---- bytes: the first slot kept, the others moved down, the kept one put behind them
-
--- bytes copied over as many others
-copied : (a o : List ℕ) {z : List ℕ} → length a ≡ slot_size → length o ≡ slot_size → z ≡ take (length a) a ++ drop (length a) o → z ≡ a
-copied a o la lo e =
-    let h : length a ≤ length a = omega arith in
-    let k : length o ≤ length a = omega arith in
-    e ∙ ap₂ (λ (x y : List ℕ). x ++ y) (take_all (length a) a h) (drop_of_length-le o {i = length a} k) ∙ append-nil a
-
-module _ (s : List ℕ) (h : slot_size ≤ length s) where
-  first-size : length (take slot_size s) ≡ slot_size
-  first-size = length-take-le slot_size s h
-
-  pub turned : (o z w : List ℕ) {y : List ℕ} → length o ≡ slot_size → z ≡ take (length (take slot_size s)) (take slot_size s) ++ drop (length (take slot_size s)) o
-      → w ≡ drop slot_size s ++ drop (length s - slot_size) s
-      → y ≡ take (length z) z ++ drop (length z) (take (length w - (length w - slot_size)) (drop (length w - slot_size) w))
-      → put_mid (length w - slot_size) (length w - (length w - slot_size)) w y ≡ drop slot_size s ++ take slot_size s
-  turned o z w {y} lo ez ew ey =
-      let kept : z ≡ take slot_size s = copied (take slot_size s) o first-size lo ez in
-      let lz : length z ≡ slot_size = ap length kept ∙ first-size in
-      let ld : length (drop slot_size s) ≡ length s - slot_size = length-drop slot_size s in
-      let lw : length w ≡ length s =
-      ap length ew ∙ length-append (drop slot_size s) (drop (length s - slot_size) s) ∙ omega (arith, length-drop (length s - slot_size) s) in
-      let at : length w - slot_size ≡ length (drop slot_size s) = omega arith in
-      let last : length (take (length w - (length w - slot_size)) (drop (length w - slot_size) w)) ≡ slot_size =
-      mid_len (length w - slot_size) (length w) w (omega arith) ∙ omega arith in
-      let here : y ≡ take slot_size s = copied z (take (length w - (length w - slot_size)) (drop (length w - slot_size) w)) lz last ey ∙ kept in
-      let front : take (length w - slot_size) w ≡ drop slot_size s =
-      ap₂ (λ (m : ℕ) (l : List ℕ). take m l) at ew ∙ take_at (drop slot_size s) (drop (length s - slot_size) s) (length (drop slot_size s)) refl in
-      let none : drop (length w) w ≡ [] = drop_of_length-le w {i = length w} (omega arith) in
-      ap₂ (λ (x u : List ℕ). x ++ (y ++ u)) front (Post-is (length w - slot_size) (length w) w (omega arith) ∙ none)
-      ∙ ap (λ (u : List ℕ). drop slot_size s ++ u) (append-nil y ∙ here)
 
 -- ---- elements
 

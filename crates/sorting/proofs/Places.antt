@@ -5,7 +5,6 @@ use mathlib.Core.List.{List}
 use Prim.Native.Nat.{ℕ, zero, suc, ◌+◌, ◌-◌, ◌≤◌, ◌<◌, min}
 use native.Mathlib.Omega.{arith}
 use native.Mathlib.Decide.{dec_le}
-use borrow.Author.Tests.{not-true, not-false}
 use lib.ListN.{length, drop, length-drop}
 use lib.Dec.{T}
 use mir.Facts.{T_not}
@@ -159,11 +158,11 @@ forth-start h k = record { behind = h; before = k }
 module _ {b : List ℕ} {i j : ℕ} (f : SortedBehind b i) (inv : Forward b i j) where
   -- slot j does not come before slot i: it is at the place
   module _ (left : j < count b) {r : Bool} (e : r ≡ is_before (read_path (slot_at b j)) (read_path (slot_at b i))) where
-    pub forth-here : not r ≡ true → j ≡ place_behind b i
-    forth-here t = omega (arith, inv.before, slot-at-place f inv.behind left e (not-true r t))
+    pub forth-here : r ≡ false → j ≡ place_behind b i
+    forth-here t = omega (arith, inv.before, slot-at-place f inv.behind left e t)
 
-    pub forth-next : not r ≡ false → Forward b i (j + 1)
-    forth-next t = record { behind = omega (arith, inv.behind); before = slot-past f inv.behind left e (not-false r t) }
+    pub forth-next : r ≡ true → Forward b i (j + 1)
+    forth-next t = record { behind = omega (arith, inv.behind); before = slot-past f inv.behind left e t }
 
   -- no slot is left
   pub forth-end : count b ≤ j → j ≡ place_behind b i

@@ -1,4 +1,6 @@
 // A partition's elements put into path order, in place: each is moved behind those after it that come before it.
+#![tactic(auto)]
+
 ghost use Rattle.std.specs.Prelude.{◌≡◌, ◌++◌, ◌+◌, ◌≤◌, ◌<◌, min, length, take, drop};
 ghost use Rattle.model.specs.Sets.{sort};
 ghost use Rattle.model.specs.Element.{rank};
@@ -65,11 +67,11 @@ fn turn(s: &mut [u8])
     ensures { s.new ≡ drop slot_size s.old ++ take slot_size s.old }
 {
     let mut scratch = [0u8; 40];
-    bytes::copy(&s[0..40], &mut scratch);
+    scratch.copy_from_slice(&s[0..40]);
     octets::move_down(s, 40);
     let end = s.len();
     let start = end - 40;
-    bytes::copy(&scratch, &mut s[start..end]);
+    s[start..end].copy_from_slice(&scratch);
 }
 
 // Moves slot i behind those up to slot to.

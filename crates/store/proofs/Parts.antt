@@ -4,7 +4,6 @@ use mathlib.Core.Bool.{Bool, true, false, not, ◌&&◌, ◌||◌}
 use mathlib.Core.List.{List, ◌++◌}
 use Prim.Native.Nat.{ℕ, zero, suc, ◌+◌, ◌-◌, ◌*◌, ◌≤◌, ◌<◌}
 use native.Mathlib.Omega.{arith}
-use borrow.Author.Tests.{not-true, not-false}
 use borrow.Rule.Slice.PartMut.{put_mid, Post-is}
 use lib.ListN.{length, take, drop}
 use lib.Dec.{T}
@@ -45,18 +44,18 @@ formed-set n b t = ap elements (cond_yes (well_formed n (partition n b)) (held (
 
 -- a partition that the subject does not dominate does not matter
 module _ (s n : ℕ) (b : List ℕ) {r : Bool} (e : r ≡ dominates s n) where
-  pub not-dominated : not r ≡ true → false ≡ (dominates s n && not (is_held ((open_model b).cell n)))
-  not-dominated t = let q : dominates s n ≡ false = sym e ∙ not-true r t in rw q
+  pub not-dominated : r ≡ false → false ≡ (dominates s n && not (is_held ((open_model b).cell n)))
+  not-dominated t = let q : dominates s n ≡ false = sym e ∙ t in rw q
 
-  pub is-dominated : not r ≡ false → T (dominates s n)
-  is-dominated t = let q : dominates s n ≡ true = sym e ∙ not-false r t in rw q tt
+  pub is-dominated : r ≡ true → T (dominates s n)
+  is-dominated t = let q : dominates s n ≡ true = sym e ∙ t in rw q tt
 
   -- of one that he does, its well-formedness
-  pub by-formed : not r ≡ false → {x : List ℕ} {w : Bool} → (x ≡ partition n b) × (length x ≡ partition_size) → w ≡ well_formed n x
+  pub by-formed : r ≡ true → {x : List ℕ} {w : Bool} → (x ≡ partition n b) × (length x ≡ partition_size) → w ≡ well_formed n x
       → not w ≡ (dominates s n && not (is_held ((open_model b).cell n)))
   unfolding open_model
   by-formed t f g =
-      let q : dominates s n ≡ true = sym e ∙ not-false r t in
+      let q : dominates s n ≡ true = sym e ∙ t in
       sym (rw q (ap not (held-formed n (partition n b) ∙ ap (well_formed n) (sym f.0) ∙ sym g)))
 
 -- the part that starts at the label's index k

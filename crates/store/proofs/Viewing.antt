@@ -4,7 +4,6 @@ use mathlib.Core.Bool.{Bool, true, false, not, cond, ◌&&◌, ◌||◌, or_asso
 use mathlib.Core.List.{List, [], ◌∷◌, ◌++◌}
 use Prim.Native.Nat.{ℕ, ◌/◌, ◌≤◌, ◌<◌}
 use native.Mathlib.Omega.{arith}
-use borrow.Author.Tests.{not-true, not-false}
 use lib.ListN.{length}
 use lib.Dec.{T}
 use Rattle.model.specs.Lists.{any, gather}
@@ -42,12 +41,12 @@ opened-set {b} o n t = formed-set n b (opened-formed o n t)
 
 -- one label
 module _ {b : List ℕ} {s : ℕ} (o : Opened b s) (p : List Step) (n : ℕ) {r : Bool} (e : r ≡ dominates s n) where
-  pub not-below : not r ≡ true → false ≡ below_at s b p n
-  not-below t = let q : dominates s n ≡ false = sym e ∙ not-true r t in rw q
+  pub not-below : r ≡ false → false ≡ below_at s b p n
+  not-below t = let q : dominates s n ≡ false = sym e ∙ t in rw q
 
-  module _ (yes : not r ≡ false) where
+  module _ (yes : r ≡ true) where
     pub dominated : T (dominates s n)
-    dominated = let q : dominates s n ≡ true = sym e ∙ not-false r yes in rw q tt
+    dominated = let q : dominates s n ≡ true = sym e ∙ yes in rw q tt
 
     pub part-formed : {x : List ℕ} → (x ≡ partition n b) × (length x ≡ partition_size) → Formed x
     part-formed f = record { label = n; is = rw f.0 (opened-formed o n dominated) }

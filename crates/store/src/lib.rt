@@ -1,4 +1,6 @@
 // The store's partitions. A partition is read only through a function that asks for a subject who dominates its label.
+#![tactic(auto)]
+
 mod writing;
 
 ghost use Rattle.std.specs.Prelude.{◌≡◌, not, ◌&&◌, ◌≤◌, ◌<◌, length, T};

@@ -5,7 +5,6 @@ use mathlib.Core.List.{List, [], ◌∷◌}
 use Prim.Native.Nat.{ℕ, suc, ◌+◌, ◌-◌, ◌*◌, ◌/◌, ◌%◌, ◌≤◌, ◌<◌, max}
 use native.Mathlib.Omega.{arith}
 use native.Mathlib.Decide.{dec_le, dec_lt}
-use borrow.Author.Tests.{not-false}
 use lib.ListN.{length, take, drop, drop_of_length-le}
 use lib.Dec.{T, eqb}
 use mir.Facts.{yes_ltb, no_ltb, not_T, T_not}
@@ -161,13 +160,13 @@ unfolding own_behind
 all_seen s v p w = rw (seen_all v p w, drop_of_length-le p {i = length p} (omega arith)) tt
 
 -- the last label is another
-pub place-six : (s : ℕ) (b : List ℕ) (p : List Step) {r : Bool} → r ≡ ends_in s p → not r ≡ true → Places (Refused 6) s b p
+pub place-six : (s : ℕ) (b : List ℕ) (p : List Step) {r : Bool} → r ≡ ends_in s p → r ≡ false → Places (Refused 6) s b p
 place-six s b p e h = (row-applies _ _ (failed e h), λ z. absurd (omega arith))
 
-module _ {s : ℕ} {b : List ℕ} (o : Opened b s) (p : List ℕ) (good : T (good_path p)) {r : Bool} (e : r ≡ ends_in s (steps_of p)) (h : not r ≡ false)
+module _ {s : ℕ} {b : List ℕ} (o : Opened b s) (p : List ℕ) (good : T (good_path p)) {r : Bool} (e : r ≡ ends_in s (steps_of p)) (h : r ≡ true)
     {x : List ℕ} (g : (x ≡ partition s b) × (length x ≡ partition_size)) {at : ℕ} {t : Bool} (found : Found x (steps_of p) at t) where
   ends : T (ends_in s (steps_of p))
-  ends = told-yes e (not-false r h)
+  ends = told-yes e h
 
   is_live : t ≡ live (open_model b) (steps_of p)
   is_live = found-live o g (steps_of p) e h found

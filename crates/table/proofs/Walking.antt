@@ -4,7 +4,7 @@ use mathlib.Core.Bool.{Bool, true, false, not, ◌||◌}
 use mathlib.Core.List.{List}
 use Prim.Native.Nat.{ℕ, ◌-◌, ◌≤◌, ◌<◌}
 use native.Mathlib.Omega.{arith}
-use borrow.Author.Tests.{not-false, eq-eqb, ne_eqb}
+use borrow.Author.Tests.{eq-eqb, ne_eqb}
 use lib.ListN.{length}
 use lib.Dec.{T, eqb}
 use mir.Facts.{yes_eqb, no_eqb, yes_ltb, no_ltb}
@@ -40,11 +40,11 @@ pub told-no : {r t : Bool} → r ≡ t → r ≡ false → T (not t)
 told-no e h = subst (λ (b : Bool). T (not b)) (sym h ∙ e) tt
 
 -- a test that failed does not hold, and one that did not fail holds
-pub failed : {r t : Bool} → r ≡ t → not r ≡ true → T (not t)
-failed e h = told-yes (ap not e) h
+pub failed : {r t : Bool} → r ≡ t → r ≡ false → T (not t)
+failed e h = told-no e h
 
-pub held : {r t : Bool} → r ≡ t → not r ≡ false → T (not (not t))
-held e h = told-no (ap not e) h
+pub held : {r t : Bool} → r ≡ t → r ≡ true → T (not (not t))
+held {t = t} e h = yes-not-not t (told-yes e h)
 
 -- ---- rows 1 to 3
 
@@ -100,9 +100,9 @@ module _ {s : ℕ} {b : List ℕ} (o : Opened b s) {x : List ℕ} (g : (x ≡ pa
   own-set = opened-set o s (dominates-refl s o.label) ∙ ap read_partition (sym g.0)
 
   -- an element of the own label is live if it is found there
-  pub found-live : (p : List Step) {r : Bool} → r ≡ ends_in s p → not r ≡ false → {at : ℕ} {f : Bool} → Found x p at f → f ≡ live (open_model b) p
+  pub found-live : (p : List Step) {r : Bool} → r ≡ ends_in s p → r ≡ true → {at : ℕ} {f : Bool} → Found x p at f → f ≡ live (open_model b) p
   found-live p {r} e own h =
-      let q : T (ends_in s p) = told-yes e (not-false r own) in
+      let q : T (ends_in s p) = told-yes e own in
       h.found-is ∙ ap (λ (es : List Element). contains es p) (sym own-set) ∙ sym (live_own s (open_model b) p q)
 
   -- where it is found is where it stands in the own set

@@ -1,5 +1,7 @@
 // The table of refusals walked in groups that calls share: the number of the first row of a group that applies, or 0, or what is gone
 // on with. Nothing is written here.
+#![tactic(auto)]
+
 mod look;
 mod own;
 mod placing;

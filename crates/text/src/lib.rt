@@ -1,5 +1,7 @@
 // Bytes, numbers and values put into an output from a place on. What lies past the output's end is counted and not written, so that
 // a dry run over an empty part measures.
+#![tactic(auto)]
+
 mod digits;
 mod long;
 

@@ -1,4 +1,6 @@
 // The tags and values of a view as XML put into an output from a place on, as `text` puts bytes and numbers.
+#![tactic(auto)]
+
 ghost use Rattle.std.proofs.Math.Option.{none, some};
 ghost use Rattle.std.specs.Prelude.{[], ◌++◌, ◌+◌, ◌≤◌, ◌<◌, length, T};
 ghost use Rattle.model.specs.Lists.{gather};

@@ -18,7 +18,7 @@ use Rattle.model.specs.Intake.{siblings, differ, in_form, own_live, is_one, Send
 use Rattle.model.proofs.Bools.{and_l, and_r, both, decide}
 use Rattle.model.proofs.Paths.{step-ranges}
 use Rattle.model.proofs.Sending.{onto, xml-onto, xml-element, siblings-onto, form-onto, ElementForm, form-parts, parts-form, ends_inside, ends-opens, end-tag-ends, xml-opens, rest-unique, contents-unique, tree-unique}
-use Rattle.scan.specs.Text.{begins, is_front}
+use Rattle.scan.specs.Text.{is_front}
 use Rattle.scan.proofs.Goings.{neither}
 use Rattle.scan_tag.specs.Tags.{EndAt}
 use Rattle.siblings.specs.Differing.{Known, Added}

@@ -1,6 +1,7 @@
 // A tree read from a text. An element and the elements inside it are read by functions that call each other, at most six elements deep.
 // Kept are a value while it is read, the keys of the first 32 elements inside each that is open, and of the first 32 elements of all what
 // is needed to put them in.
+#![tactic(auto)]
 
 ghost use Rattle.std.specs.Prelude.{◌≡◌, ◌&&◌, [], ◌∷◌, ◌+◌, ◌≤◌, ◌<◌, length};
 ghost use Rattle.xml_read.specs.Records.{Marked};

@@ -1,4 +1,6 @@
 // What a subject sees as XML, written into an output: elements inside each other, as they stand in the tree.
+#![tactic(auto)]
+
 mod tags;
 
 ghost use Rattle.std.specs.Prelude.{◌≡◌, ◌∷◌, ◌<◌, ◌≤◌, length};

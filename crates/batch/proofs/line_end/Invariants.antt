@@ -1,0 +1,13 @@
+-- `batch::line_end`: the first line end is not among the first i bytes.
+use Prim.Native.Nat.{◌-◌}
+use lib.ListN.{length}
+use borrow.Author.Rules.{rules}
+use Rattle.batch.specs.Pieces.{NotBefore}
+use Rattle.batch.proofs.Cuts.{seek_found, seek-next, seek-end}
+use Rattle.batch.proofs.line_end.Given as goal
+
+abbrev pub invariant-loop-i : goal.invariant-loop-i
+invariant-loop-i l = NotBefore l.input l.i
+
+abbrev pub decreases-loop-i : goal.decreases-loop-i
+decreases-loop-i l = length l.input - l.i

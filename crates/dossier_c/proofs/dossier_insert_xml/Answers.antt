@@ -1,0 +1,6 @@
+-- `dossier_c::dossier_insert_xml`: what the call promises.
+use borrow.Author.Rules.{rules}
+use Rattle.dossier_c.proofs.dossier_insert_xml.Goals as goal
+
+pub returns : goal.returns
+returns c = c.insert_xml-done.ensures

@@ -1,0 +1,6 @@
+-- `dossier_c::dossier_view`: what the call promises.
+use borrow.Author.Rules.{rules}
+use Rattle.dossier_c.proofs.dossier_view.Goals as goal
+
+pub returns : goal.returns
+returns c = c.view-done.ensures

@@ -1,0 +1,6 @@
+-- `dossier_c::dossier_view_xml`: what the call promises.
+use borrow.Author.Rules.{rules}
+use Rattle.dossier_c.proofs.dossier_view_xml.Goals as goal
+
+pub returns : goal.returns
+returns c = c.view_xml-done.ensures

@@ -1,0 +1,36 @@
+-- `dossier_xml::act`: the rows, then the XML; the last row is its length.
+use borrow.Author.Rules.{rules}
+use Rattle.promise.proofs.Doing.{acted-raw}
+use Rattle.table.proofs.Walking.{told-yes, lent-opened}
+use Rattle.table.proofs.Looking.{look-stops, look-short, look-done}
+use Rattle.dossier_xml.proofs.Doing.{xml-looks}
+use Rattle.dossier_xml.proofs.act.Goals as goal
+
+pub some_raw-requires : goal.some_raw-requires
+some_raw-requires c = c.requires.size
+
+pub returns-then-some_raw : goal.returns-then-some_raw
+returns-then-some_raw c = acted-raw _ _ _ _ (told-yes c.some_raw.ensures c.if-some_raw.true)
+
+pub look_row-number-requires : goal.look_row-number-requires
+look_row-number-requires c = lent-opened c.requires c.some_raw.ensures c.if-some_raw.false
+
+pub returns-then-number-ne0 : goal.returns-then-number-ne0
+returns-then-number-ne0 c =
+    let opened = lent-opened c.requires c.some_raw.ensures c.if-some_raw.false in
+    look-stops (xml-looks _ _ _ _) opened c.look_row-number.ensures c.if-number-ne0.true
+
+pub write-total-requires : goal.write-total-requires
+write-total-requires c = lent-opened c.requires c.some_raw.ensures c.if-some_raw.false
+
+pub returns-then-output-total : goal.returns-then-output-total
+returns-then-output-total c =
+    let opened = lent-opened c.requires c.some_raw.ensures c.if-some_raw.false in
+    look-short (xml-looks _ _ _ _) opened c.look_row-number.ensures c.if-number-ne0.false
+    c.write-total.ensures.value c.output-1.given c.write-total.ensures.out_after c.if-output-total.true
+
+pub returns : goal.returns
+returns c =
+    let opened = lent-opened c.requires c.some_raw.ensures c.if-some_raw.false in
+    look-done (xml-looks _ _ _ _) opened c.look_row-number.ensures c.if-number-ne0.false
+    c.write-total.ensures.value c.output-1.given c.write-total.ensures.out_after c.if-output-total.false
