@@ -7,6 +7,7 @@
 //   SHIM_HALF=N         the program ends within call N: of a write half of the bytes are written, any other call is made whole
 //   SHIM_FAIL=N         call N is not made and fails
 //   SHIM_SHORT=1        a write takes 1,000 bytes at most
+//   SHIM_STATX=1        statx is counted too: of a name as lstat, of an open file as fstat
 //   SHIM_FAULT=in-place the program's new file is the store's file itself, and is not renamed
 //   SHIM_FAULT=no-sync  fsync does nothing
 //
@@ -191,6 +192,18 @@ int fstat(int fd, struct stat *about) {
     }
     int status = (int)syscall(SYS_fstat, fd, about);
     made();
+    return status;
+}
+
+int statx(int folder, const char *path, int flags, unsigned int mask, struct statx *about) {
+    int is_counted = number("SHIM_STATX") != 0;
+    if (is_counted && counted(path[0] == 0 ? "fstat" : "lstat")) {
+        return failed(EIO);
+    }
+    int status = (int)syscall(SYS_statx, folder, path, flags, mask, about);
+    if (is_counted) {
+        made();
+    }
     return status;
 }
 
