@@ -21,13 +21,20 @@ pub perform-done-requires : goal.perform-done-requires
 perform-done-requires c = (line-short c.args.line.now c.read_line.new.path (c.read_line.ensures.reading, c.read_line.ensures.spans) c.in-Call.is, omega (arith, c.requires.1))
 
 pub overflow_cast-done : goal.overflow_cast-done
-overflow_cast-done c = search (rules, count-few c.args.line.now c.read_line.new.path (c.read_line.ensures.reading, c.read_line.ensures.spans) c.in-Call.is (slice-bytes c.read_line.new.path c.slice_known-4-1.given) (omega (arith, c.read_line.auto.path, c.requires.0)) c.perform-done.ensures)
+overflow_cast-done c = search (
+  rules,
+  count-few c.args.line.now c.read_line.new.path
+      (c.read_line.ensures.reading, c.read_line.ensures.spans) c.in-Call.is (slice-bytes c.read_line.new.path c.slice_known-4-1.given) (omega (arith, c.read_line.auto.path, c.requires.0)) c.perform-done.ensures,
+)
 
 pub put_answer-requires : goal.put_answer-requires
-put_answer-requires c = wrote-few c.args.line.now c.read_line.new.path (c.read_line.ensures.reading, c.read_line.ensures.spans) c.in-Call.is (slice-bytes c.read_line.new.path c.slice_known-4-1.given) (omega (arith, c.read_line.auto.path, c.requires.0)) c.perform-done.ensures
+put_answer-requires c = wrote-few c.args.line.now c.read_line.new.path
+    (c.read_line.ensures.reading, c.read_line.ensures.spans) c.in-Call.is (slice-bytes c.read_line.new.path c.slice_known-4-1.given) (omega (arith, c.read_line.auto.path, c.requires.0)) c.perform-done.ensures
 
 pub returns : goal.returns
 returns c =
     let bytes = slice-bytes c.read_line.new.path c.slice_known-4-1.given in
-    let ends = answer-ends c.args.line.now c.read_line.new.path (c.read_line.ensures.reading, c.read_line.ensures.spans) c.in-Call.is bytes (omega (arith, c.read_line.auto.path, c.requires.0)) c.perform-done.ensures c.struct_known-2-1.given.0 c.put_answer.ensures in
-    call-carried c.args.line.now c.read_line.new.path (c.read_line.ensures.reading, c.read_line.ensures.spans) c.in-Call.is bytes (omega (arith, c.read_line.auto.path, c.requires.0)) c.perform-done.ensures c.put_answer.ensures (omega (arith, ends, c.requires.1))
+    let ends = answer-ends c.args.line.now c.read_line.new.path
+    (c.read_line.ensures.reading, c.read_line.ensures.spans) c.in-Call.is bytes (omega (arith, c.read_line.auto.path, c.requires.0)) c.perform-done.ensures c.struct_known-2-1.given.0 c.put_answer.ensures in
+    call-carried c.args.line.now c.read_line.new.path
+    (c.read_line.ensures.reading, c.read_line.ensures.spans) c.in-Call.is bytes (omega (arith, c.read_line.auto.path, c.requires.0)) c.perform-done.ensures c.put_answer.ensures (omega (arith, ends, c.requires.1))
