@@ -1,19 +1,17 @@
 -- The lines of an input that is cut in two, and where the first line ends.
 use mathlib.Core.Path.{◌≡◌, refl, sym, ap, ◌∙◌}
-use mathlib.Core.Bool.{Bool, false, not, true}
+use mathlib.Core.Bool.{Bool, not, cond}
 use mathlib.Core.List.{List, [], ◌∷◌, ◌++◌, append-nil}
-use Prim.Native.Nat.{ℕ, zero, suc, ◌+◌, ◌-◌, ◌≤◌, ◌<◌, min}
+use Prim.Native.Nat.{ℕ, zero, suc, ◌≤◌, ◌<◌, min}
 use native.Mathlib.Omega.{arith}
-use native.Mathlib.Numerals.{add-one}
-use lib.ListN.{length, take, drop, get_or, length-drop, drop_of_length-le}
-use lib.Seq.{append_snoc, drop-cons, drop-drop}
+use lib.ListN.{length, take}
+use lib.Seq.{append_snoc}
 use lib.Dec.{T, eqb}
-use borrow.Author.Tests.{ne_eqb}
-use Rattle.model.specs.Lists.{all}
+use Rattle.std.proofs.lemmas.Bool.{false_from_ne_true}
+use Rattle.memchr.specs.Find.{Nowhere, Passes, is_byte}
 use Rattle.model.specs.Script.{lines_from}
-use Rattle.model.proofs.Bools.{and_l, and_r, decide, is_true, is_false}
-use Rattle.octets.proofs.Tests.{Tested, test-end}
-use Rattle.batch.specs.Pieces.{ended, begun, last, end_at, lacks_end, NotBefore, span}
+use Rattle.model.proofs.Bools.{decide, is_true, is_false}
+use Rattle.batch.specs.Pieces.{ended, begun, last, end_at, span}
 
 -- ---- an input cut in two
 
@@ -42,60 +40,22 @@ begun-append p (x ∷ a) b =
     (λ (t : T (eqb x 10)). rw (is_true (eqb x 10) t) (begun-append [] a b))
     (λ (t : T (not (eqb x 10))). rw (is_false (eqb x 10) t) (begun-append (p ++ (x ∷ [])) a b))
 
--- ---- the first line end is sought
+-- ---- the first line end, as it was found
 
--- none are passed
-pub seek-start : (s : List ℕ) → NotBefore s 0
-seek-start s = record { within = omega arith; same = omega arith }
+-- no byte is one
+pub end-none : (s : List ℕ) → Nowhere (Passes (is_byte 10) s) 0 (length s) → length s ≡ end_at s
+end-none [] n = refl
+end-none (x ∷ s) n =
+    ap suc (end-none s (λ k g h p. n (suc k) (omega arith) (omega arith) p))
+    ∙ sym (ap (λ (b : Bool). cond b 0 (suc (end_at s))) (false_from_ne_true (eqb x 10) (n 0 (omega arith) (omega arith))))
 
--- every byte was tested
-pub lacks-all : {s : List ℕ} {t : Bool} {i : ℕ} → Tested (λ x. not (eqb x 10)) s t i → length s ≤ i → t ≡ lacks_end s
-unfolding lacks_end
-lacks-all inv h = test-end inv h
-
--- it is not among bytes that are none
-past : (n : ℕ) (l : List ℕ) → n ≤ length l → T (lacks_end (take n l)) → end_at l ≡ n + end_at (drop n l)
-unfolding lacks_end
-past zero l h t = omega arith
-past (suc n) [] h t = absurd (omega arith)
-past (suc n) (x ∷ l) h t =
-    let e : end_at l ≡ n + end_at (drop n l) =
-    past n l (omega arith) (and_r (not (eqb x 10)) (all (λ y. not (eqb y 10)) (take n l)) t) in
-    rw (is_false (eqb x 10) (and_l (not (eqb x 10)) (all (λ y. not (eqb y 10)) (take n l)) t)) (omega arith)
-
-module _ {s : List ℕ} {i : ℕ} (inv : NotBefore s i) where
-  -- a block that lacks it
-  pub seek-block : {n z : ℕ} {b : Bool} → n ≤ length s - i → z ≡ n → b ≡ lacks_end (take z (drop i s)) → b ≡ true → NotBefore s (i + n)
-  seek-block {n} {z} {b} h e f g =
-      let w : i ≤ length s = inv.within in
-      let l : length (drop i s) ≡ length s - i = length-drop i s in
-      let t : T (lacks_end (take z (drop i s))) = rw (← f, g) tt in
-      let p : end_at (drop i s) ≡ z + end_at (drop z (drop i s)) = past z (drop i s) (omega arith) t in
-      let d : drop z (drop i s) ≡ drop (i + n) s = drop-drop z i s ∙ ap (λ (k : ℕ). drop (i + k) s) e in
-      let q : end_at (drop z (drop i s)) ≡ end_at (drop (i + n) s) = ap end_at d in
-      record { within = omega arith; same = omega (arith, inv.same) }
-
-  module _ (h : i < length s) where
-    front : drop i s ≡ get_or s i 0 ∷ drop (i + 1) s
-    front = rw (add-one i) (drop-cons s i 0 h)
-
-    -- a line end
-    pub seek_found : get_or s i 0 ≡ 10 → i ≡ end_at s
-    seek_found e =
-        let z : end_at (drop i s) ≡ 0 = ap end_at front ∙ rw e in
-        omega (arith, inv.same)
-
-    -- another byte
-    pub seek-next : (get_or s i 0 ≡ 10 → ⊥) → NotBefore s (i + 1)
-    seek-next f =
-        let z : end_at (drop i s) ≡ suc (end_at (drop (i + 1) s)) = ap end_at front ∙ rw (ne_eqb (get_or s i 0) 10 f) in
-        record { within = omega arith; same = omega (arith, inv.same) }
-
-  -- the input ends
-  pub seek-end : length s ≤ i → i ≡ end_at s
-  seek-end h =
-      let z : end_at (drop i s) ≡ 0 = ap end_at (drop_of_length-le s h) in
-      omega (arith, inv.same)
+-- the one at k is the first
+pub end-some : (s : List ℕ) (k : ℕ) → k < length s → Passes (is_byte 10) s k → Nowhere (Passes (is_byte 10) s) 0 k → k ≡ end_at s
+end-some [] k h e n = absurd (omega arith)
+end-some (x ∷ s) zero h e n = sym (ap (λ (b : Bool). cond b 0 (suc (end_at s))) e)
+end-some (x ∷ s) (suc k) h e n =
+    ap suc (end-some s k (omega arith) e (λ j g l p. n (suc j) (omega arith) (omega arith) p))
+    ∙ sym (ap (λ (b : Bool). cond b 0 (suc (end_at s))) (false_from_ne_true (eqb x 10) (n 0 (omega arith) (omega arith))))
 
 -- ---- where the first line ends
 

@@ -1,13 +1,13 @@
 -- What is kept of a line reads as the line does; and what the functions do with it.
-use mathlib.Core.Path.{◌≡◌, refl, sym, ap, ap₂, subst, ◌∙◌}
+use mathlib.Core.Path.{◌≡◌, refl, sym, ap, ap₂, ◌∙◌}
 use mathlib.Core.Bool.{not}
 use mathlib.Core.Option.{Option, none, some}
 use mathlib.Core.List.{List, [], ◌∷◌, ◌++◌}
-use Prim.Native.Nat.{ℕ, zero, suc, ◌+◌, ◌-◌, ◌≤◌, ◌<◌, min}
+use Prim.Native.Nat.{ℕ, zero, suc, ◌+◌, ◌-◌, ◌≤◌, min}
 use native.Mathlib.Omega.{arith}
 use native.Mathlib.Numerals.{add-one}
-use lib.ListN.{length, take, drop, set, get_or, length-append, length-take, length-set}
-use lib.Seq.{take_all, take_at, take-take, take-length, take-append-add, length-take-le, paste, paste-zero, paste-suc}
+use lib.ListN.{length, take, drop, length-append, length-take}
+use lib.Seq.{take_all, take_at, take-take, take-append-add, length-take-le}
 use lib.Dec.{T, eqb}
 use Rattle.model.specs.Script.{ScriptCall, Reads, Reading, Readings}
 use Rattle.model.proofs.Bools.{decide, is_true, is_false}
@@ -78,41 +78,9 @@ last-alike (x ∷ p) (y ∷ q) rs e h = first_alike (x ∷ p) (y ∷ q) [] rs e 
 
 -- ---- bytes put behind the first n of a line
 
--- the first i of the bytes are put behind the first n of the line
-pub record Putting (l : List ℕ) (n : ℕ) (more x : List ℕ) (i : ℕ) : Type 0 where
-  pub room : n + length more ≤ length l
-  pub within : i ≤ length more
-  pub is : x ≡ paste l n more i
-  pub size : length x ≡ length l
-
--- no byte is put
-pub put-start : (l : List ℕ) (n : ℕ) (more : List ℕ) → n + length more ≤ length l → Putting l n more l 0
-put-start l n more h = record { room = h; within = omega arith; is = paste-zero l n more; size = refl }
-
-module _ {l more x : List ℕ} {n i : ℕ} (inv : Putting l n more x i) where
-  -- one byte more
-  pub put_next : i < length more → Putting l n more (set x (n + i) (get_or more i 0)) (i + 1)
-  put_next h =
-      let r : n + length more ≤ length l = inv.room in
-      record {
-        room = r;
-        within = omega arith;
-        is =
-            ap (λ (y : List ℕ). set y (n + i) (get_or more i 0)) inv.is
-            ∙ paste-suc l n more i 0 (omega arith) h
-            ∙ ap (paste l n more) (sym (add-one i));
-        size = length-set x (n + i) (get_or more i 0) ∙ inv.size;
-      }
-
-  -- all are put
-  pub put-end : length more ≤ i → x ≡ take n l ++ more ++ drop (n + length more) l
-  put-end h =
-      let e : i ≡ length more = omega (arith, inv.within) in
-      inv.is ∙ ap (paste l n more) e ∙ ap (λ (y : List ℕ). take n l ++ y ++ drop (n + length more) l) (take-length more)
-
 -- as many of the bytes as there is room for
 module _ {l' : List ℕ} (l : List ℕ) (n : ℕ) (more : List ℕ) (room : n ≤ kept_size) (size : length l ≡ kept_size) where
-  keep_some : {z : ℕ} → z ≡ min (length more) (length l - n) → l' ≡ take n l ++ take z more ++ drop (n + length (take z more)) l
+  pub keep_some : {z : ℕ} → z ≡ min (length more) (length l - n) → l' ≡ take n l ++ take z more ++ drop (n + length (take z more)) l
       → Kept l n more l' (n + z)
   keep_some {z} e put =
       let a : length (take n l) ≡ n = length-take-le n l (omega arith) in
@@ -120,15 +88,6 @@ module _ {l' : List ℕ} (l : List ℕ) (n : ℕ) (more : List ℕ) (room : n �
       let f : take (n + z) (take n l ++ more) ≡ take n l ++ take z more =
       ap (λ (k : ℕ). take (k + z) (take n l ++ more)) (sym a) ∙ take-append-add (take n l) more z in
       record { count-is = omega arith; line-is = put ∙ ap₂ (λ (x : List ℕ) (k : ℕ). x ++ drop (n + k) l) (sym f) b }
-
-  -- where not all have room
-  pub keep-cut : {z : ℕ} → z ≡ length l - n → length l - n < length more → l' ≡ take n l ++ take z more ++ drop (n + length (take z more)) l
-      → Kept l n more l' kept_size
-  keep-cut {z} e h put = let w : n + z ≡ kept_size = omega arith in subst (Kept l n more l') w (keep_some (omega arith) put)
-
-  -- where all have room
-  pub keep_all : length more ≤ length l - n → l' ≡ take n l ++ more ++ drop (n + length more) l → Kept l n more l' (n + length more)
-  keep_all h put = keep_some (omega arith) (rw (take-length more) put)
 
 -- ---- what was put is what is kept
 

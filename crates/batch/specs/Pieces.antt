@@ -1,6 +1,5 @@
 -- An input taken in by pieces: the lines that end in a piece, and what is kept of the line that is begun.
-use Rattle.std.specs.Prelude.{◌≡◌, Bool, not, cond, List, [], ◌∷◌, ◌++◌, ℕ, suc, ◌+◌, ◌≤◌, min, length, take, drop, eqb}
-use Rattle.model.specs.Lists.{all}
+use Rattle.std.specs.Prelude.{◌≡◌, cond, List, [], ◌∷◌, ◌++◌, ℕ, suc, ◌+◌, ◌≤◌, min, length, take, drop, eqb}
 use Rattle.model.specs.Store.{empty_store}
 use Rattle.model.specs.Script.{lines_of, Prints}
 use Rattle.carry.specs.Lines.{Printed, Carried}
@@ -24,15 +23,6 @@ last (x ∷ p) = (x ∷ p) ∷ []
 abbrev pub end_at : List ℕ → ℕ
 end_at [] = 0
 end_at (x ∷ i) = cond (eqb x 10) 0 (suc (end_at i))
-
--- whether no byte is a line end
-unfoldable pub lacks_end : List ℕ → Bool
-lacks_end i = all (λ x. not (eqb x 10)) i
-
--- the first line end is not among the first n bytes
-pub record NotBefore (i : List ℕ) (n : ℕ) : Type 0 where
-  pub within : n ≤ length i
-  pub same : end_at i ≡ n + end_at (drop n i)
 
 -- how much of an input there is up to its first line end, the end included
 abbrev pub span : List ℕ → ℕ

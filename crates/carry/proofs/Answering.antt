@@ -2,7 +2,7 @@
 use mathlib.Core.Path.{◌≡◌, refl, sym, ap, ap₂, subst, ◌∙◌}
 use mathlib.Core.Option.{Option, none, some}
 use mathlib.Core.List.{List, [], ◌∷◌, ◌++◌, append_assoc, append-nil}
-use Prim.Native.Nat.{ℕ, ◌+◌, ◌-◌, ◌*◌, ◌≤◌}
+use Prim.Native.Nat.{ℕ, ◌+◌, ◌*◌, ◌≤◌}
 use native.Mathlib.Omega.{arith}
 use lib.ListN.{length, take, drop, length-append}
 use lib.Seq.{take_at, drop_at}
@@ -20,13 +20,15 @@ use Rattle.script.proofs.Buffers.{lent-steps}
 use Rattle.text.specs.Overlay.{Wrote}
 use Rattle.text.proofs.Overlays.{over-room, then, wrote-length}
 use Rattle.text.proofs.Widths.{decimal-short}
-use Rattle.script.specs.declared.Line.{Line}
-use Rattle.script.specs.declared.Line.TheVariants as line
+use Rattle.std.specs.Prelude as code
+use Rattle.std.specs.Prelude.{Some, None}
 use Rattle.script.specs.declared.Call as read
 use Rattle.script.specs.declared.Read.{Read}
 use Rattle.script.specs.Values.{value_of}
 use Rattle.script.specs.Calls as Calls
 use Rattle.script.specs.Calls.{reading_of, Spans}
+use Rattle.promise.specs.declared.Refusal.{Refusal}
+use Rattle.promise.specs.Refusals.{number_of, count_of}
 use Rattle.carry.specs.Done.{op_on, call_on, Performed}
 use Rattle.carry.specs.Lines.{answer_line, line_store, Carried}
 use Rattle.carry.proofs.Doings.{Small, answer-small}
@@ -84,40 +86,40 @@ op_same (read.TheVariants.Insert v) p l e = ap (λ (q : List ℕ). Call.Op.inser
 op_same (read.TheVariants.Update v) p l e = ap (λ (q : List ℕ). Call.Op.update q (content_of (value_of v l))) e
 op_same read.TheVariants.Delete p l e = ap Call.Op.delete e
 
-module _ (l q : List ℕ) {r : Line} (d : Reading l (reading_of r q l) × Spans r 192 (length l)) where
+-- what is told of an answer by its number and count
+pub told-performed : (a : code.Result ℕ Refusal) {k n : ℕ} → (k ≡ number_of a) × (n ≡ count_of a) → {c : Call.Call} {s o : List ℕ} {w : ℕ} {t o' : List ℕ}
+    → Performed c s o (counted (number_of a) (count_of a)) w t o' → Performed c s o (counted k n) w t o'
+told-performed a e p = rw (e.0, e.1) p
+
+module _ (l q : List ℕ) {r : code.Option Read} (d : Reading l (reading_of r q l) × Spans r 192 (length l)) where
   -- a line that does not read
-  pub unread-carried : r ≡ line.None → (s : List ℕ) {o o' : List ℕ} {w : ℕ} → Wrote o 0 unread_line o' w → 16448 ≤ length o → Carried (l ∷ []) s o w s o'
+  pub unread-carried : r ≡ None → (s : List ℕ) {o o' : List ℕ} {w : ℕ} → Wrote o 0 unread_line o' w → 16448 ≤ length o → Carried (l ∷ []) s o w s o'
   unfolding unread_line
   unread-carried e s g h =
-      carried-line g (omega (arith, g.ends)) l s s none (subst (λ (x : Line). Reading l (reading_of x q l)) e d.0) (sym (append-nil unread_line)) refl
+      carried-line g (omega (arith, g.ends)) l s s none (subst (λ (x : code.Option Read). Reading l (reading_of x q l)) e d.0) (sym (append-nil unread_line)) refl
 
-  module _ {c : Read} (e : r ≡ line.Call c) where
-    reads : Reading l (reading_of (line.Call c) q l)
-    reads = subst (λ (x : Line). Reading l (reading_of x q l)) e d.0
-
-    pub line-short : length l ≤ 256
-    line-short = reads.short
+  module _ {c : Read} (e : r ≡ Some c) where
+    reads : Reading l (reading_of (Some c) q l)
+    reads = subst (λ (x : code.Option Read). Reading l (reading_of x q l)) e d.0
 
     pub steps-few : 3 * c.steps ≤ 192
-    steps-few = (subst (λ (x : Line). Spans x 192 (length l)) e d.1).0
+    steps-few = (subst (λ (x : code.Option Read). Spans x 192 (length l)) e d.1).0
 
     module _ (bytes : Bytes q) (room : 192 ≤ length q) where
-      call-is : call_of (record { subject = c.subject; op = Calls.op_of c.call (steps_of (take (3 * c.steps) q)) l }) ≡ call_on c (take (3 * c.steps - 0) q) l
+      call-is : call_of (record { subject = c.subject; op = Calls.op_of c.call (steps_of (take (3 * c.steps) q)) l }) ≡ call_on c (take (3 * c.steps) q) l
       unfolding call_of
       call-is =
           let n : 3 * c.steps ≤ length q = omega (arith, steps-few) in
-          let z : 3 * c.steps ≡ 3 * c.steps - 0 = omega arith in
           ap (by c.subject)
           (op_same c.call (take (3 * c.steps) q) l (lent-steps q c.steps bytes n))
-          ∙ ap (λ (k : ℕ). call_on c (take k q) l) z
 
-      module _ {s o : List ℕ} {k n w : ℕ} {t o' : List ℕ} (p : Performed (call_on c (take (3 * c.steps - 0) q) l) s o (counted k n) w t o') where
+      module _ {s o : List ℕ} {k n w : ℕ} {t o' : List ℕ} (p : Performed (call_on c (take (3 * c.steps) q) l) s o (counted k n) w t o') where
         pub count-few : n ≤ 16384
         count-few =
-            subst (λ (x : Told). Small x.result) (sym p.told_is) (answer-small c.subject c.call (take (3 * c.steps - 0) q) l s).0
+            subst (λ (x : Told). Small x.result) (sym p.told_is) (answer-small c.subject c.call (take (3 * c.steps) q) l s).0
 
         pub wrote-few : w ≤ 16384
-        wrote-few = omega (arith, p.written.ends, (answer-small c.subject c.call (take (3 * c.steps - 0) q) l s).1)
+        wrote-few = omega (arith, p.written.ends, (answer-small c.subject c.call (take (3 * c.steps) q) l s).1)
 
         -- where the A line ends
         pub answer-ends : {o'' : List ℕ} {z : ℕ} → Fits w32 k → Wrote o' w (answer_line k n) o'' z → z ≤ 16408
@@ -126,7 +128,7 @@ module _ (l q : List ℕ) {r : Line} (d : Reading l (reading_of r q l) × Spans 
         pub call-carried : {o'' : List ℕ} {z : ℕ} → Wrote o' w (answer_line k n) o'' z → z ≤ length o → Carried (l ∷ []) s o z t o''
         unfolding answer_line answer_lines
         call-carried {o''} {z} g h =
-            let a : Call.Call = call_on c (take (3 * c.steps - 0) q) l in
+            let a : Call.Call = call_on c (take (3 * c.steps) q) l in
             let f : ScriptCall = record { subject = c.subject; op = Calls.op_of c.call (steps_of (take (3 * c.steps) q)) l } in
             let y : (answer_of a s).written ++ answer_line k n ≡ answer_lines (answer_of (call_of f) s) =
             ap (λ (x : Told). answer_lines (record { told = x; written = (answer_of a s).written })) p.told_is

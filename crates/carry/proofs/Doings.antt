@@ -1,11 +1,11 @@
 -- Calls carried out: the value that a line brings, and what a call answered, wrote and left.
-use mathlib.Core.Path.{◌≡◌, refl, sym, ap, ap₂, subst, ◌∙◌}
+use mathlib.Core.Path.{◌≡◌, refl, sym, ap, subst, ◌∙◌}
 use mathlib.Core.List.{List, [], ◌∷◌, ◌++◌, append_assoc}
 use Prim.Native.Nat.{ℕ, ◌+◌, ◌-◌, ◌≤◌}
 use native.Mathlib.Omega.{arith}
 use borrow.Rule.Slice.PartMut.{put_mid}
 use lib.ListN.{length, take, drop, take-append-drop, length-drop}
-use lib.Seq.{take_all, take_at, length-take-le, drop-append-le}
+use lib.Seq.{take_all, length-take-le, drop-append-le}
 use Rattle.model.specs.Path.{Step, is_prefix, steps_of}
 use Rattle.model.specs.Value.{Content}
 use Rattle.model.specs.Model.{open_model, own_set}
@@ -21,64 +21,43 @@ use Rattle.model.proofs.Rows.{passes-both}
 use Rattle.model.proofs.Groups.{rows-placed}
 use Rattle.model.proofs.Operations.{Admitted, outcome-either}
 use Rattle.model.proofs.Refusals.{answer-fits}
-use Rattle.octets.specs.Joined.{word_bytes}
 use Rattle.text.specs.Overlay.{overlay}
 use Rattle.text.proofs.Overlays.{over-room, wrote_none}
+use Rattle.std.specs.Prelude as code
 use Rattle.promise.specs.Did.{Did}
-use Rattle.script.specs.declared.Value.{Value}
-use Rattle.script.specs.declared.Value.TheVariants.{Group, Measure, Text}
+use Rattle.promise.specs.declared.Refusal.{Refusal}
+use Rattle.promise.specs.Refusals.{number_of, count_of}
 use Rattle.script.specs.Values.{value_of}
 use Rattle.script.specs.declared.Call as read
 use Rattle.script.specs.declared.Read.{Read}
+use Rattle.carry.specs.declared.calls.Done.{Done}
 use Rattle.carry.specs.Done.{op_on, call_on, Performed}
 
 -- ---- the value
 
-module _ {v : Value} (l : List ℕ) where
-  pub group-brought : v ≡ Group → (b : List ℕ) → content_of (value_of v l) ≡ record { kind = 0; value = take 0 b }
-  group-brought e b = ap (λ (u : Value). content_of (value_of u l)) e
-
-  pub measure-brought : {m : ℕ} → v ≡ Measure m → (b : List ℕ) {r : List ℕ} → b ≡ word_bytes m ++ r → content_of (value_of v l) ≡ record { kind = 1; value = take 4 b }
-  measure-brought e b f = ap (λ (u : Value). content_of (value_of u l)) e ∙ ap (λ (t : List ℕ). record { kind = 1; value = take 4 t }) (sym f)
-
-  pub text-brought : {n : ℕ} → v ≡ Text n → {at : ℕ} → at ≡ length l - n → (b : List ℕ) {t y : List ℕ} → t ≡ drop at l → y ≡ t ++ drop (length t) b
-      → content_of (value_of v l) ≡ record { kind = 2; value = take (length t) y }
-  text-brought {n} e {at} f b {t} {y} g h =
-      ap (λ (u : Value). content_of (value_of u l)) e
-      ∙ ap (λ (s : List ℕ). record { kind = 2; value = s })
-      (sym
-      (ap (take (length t)) h
-      ∙ take_at t (drop (length t) b) (length t) refl
-      ∙ g
-      ∙ ap (λ (k : ℕ). drop k l) f))
-
--- the part of a line from a place on
-pub text-part : (l : List ℕ) (at : ℕ) → take (length l - at) (drop at l) ≡ drop at l
-text-part l at = let d : length (drop at l) ≡ length l - at = length-drop at l in take_all (length l - at) (drop at l) (omega arith)
-
-pub text-short : (l : List ℕ) (at m : ℕ) → length l ≤ m → length (take (length l - at) (drop at l)) ≤ m
-text-short l at m h =
-    let d : length (drop at l) ≡ length l - at = length-drop at l in
-    let e : length (take (length l - at) (drop at l)) ≡ length (drop at l) = ap length (text-part l at) in
-    omega arith
+-- the bytes of a text, which are the last of its line
+pub text-brought : (l : List ℕ) (n : ℕ) {at : ℕ} → at ≡ length l - n → take (length l - at) (drop at l) ≡ drop (length l - n) l
+text-brought l n {at = at} e = take_all (length l - at) (drop at l) (omega (arith, length-drop at l)) ∙ ap (λ (k : ℕ). drop k l) e
 
 -- a call with the content that was brought
-pub brought-did : (f : Content → Op) (l : List ℕ) (v : Value) {k : ℕ} (size : ℕ) (y : List ℕ) → content_of (value_of v l) ≡ record { kind = k; value = take size y }
-    → (s : ℕ) {b : List ℕ} {i : Told} {t : List ℕ} → Did (by s (f (record { kind = k; value = take (size - 0) y }))) b [] i t []
-    → Did (by s (f (content_of (value_of v l)))) b [] i t []
-brought-did f l v {k} size y e s {b} {i} {t} d =
-    let z : size - 0 ≡ size = omega arith in
-    subst (λ (c : Content). Did (by s (f c)) b [] i t []) (ap (λ (n : ℕ). record { kind = k; value = take n y }) z ∙ sym e) d
+pub brought-did : (f : Content → Op) (c : Content) (s : ℕ) {v x y b t : List ℕ} {i : Told} → Did (by s (f (record { kind = c.kind; value = v }))) x [] i y []
+    → v ≡ c.value → x ≡ b → y ≡ t → Did (by s (f c)) b [] i t []
+brought-did f c s {v} {x} {y} {b} {t} {i} d e g h =
+    let from : Did (by s (f (record { kind = c.kind; value = v }))) b [] i y [] =
+    subst (λ (z : List ℕ). Did (by s (f (record { kind = c.kind; value = v }))) z [] i y []) g d in
+    let left : Did (by s (f (record { kind = c.kind; value = v }))) b [] i t [] =
+    subst (λ (z : List ℕ). Did (by s (f (record { kind = c.kind; value = v }))) b [] i z []) h from in
+    subst (λ (z : List ℕ). Did (by s (f (record { kind = c.kind; value = z }))) b [] i t []) e left
 
 -- ---- what was done
 
 -- a call that has no output writes nothing
-pub silent-performed : {c : Call} {s : List ℕ} {k n : ℕ} {t : List ℕ} (o : List ℕ) → Did c s [] (counted k n) t [] → {i j m : ℕ} → (i ≡ k) × (j ≡ n) × (m ≡ 0)
-    → Performed c s o (counted i j) m t o
+pub silent-performed : {c : Call} {s : List ℕ} (a : code.Result ℕ Refusal) {t : List ℕ} (o : List ℕ) → Did c s [] (counted (number_of a) (count_of a)) t []
+    → {d : Done} → d ≡ record { answer = a; wrote = 0 } → Performed c s o (counted (number_of d.answer) (count_of d.answer)) d.wrote t o
 unfolding answer_of store_after
-silent-performed {c} {s} o d e =
+silent-performed {c} {s} a o d e =
     let w : (answer_of c s).written ≡ [] = none_of (answer_of c s).written (drop (length (answer_of c s).written) []) d.output-is in
-    record { told_is = ap₂ counted e.0 e.1 ∙ d.told_is; store_is = d.store_is; written = rw (e.2, w) (wrote_none o 0) }
+    rw e (record { told_is = d.told_is; store_is = d.store_is; written = rw w (wrote_none o 0) })
   where
     none_of : (x y : List ℕ) → [] ≡ x ++ y → x ≡ []
     none_of [] y q = refl

@@ -1,5 +1,5 @@
 -- A call carried out: what it answered, wrote and left.
-use Rattle.std.specs.Prelude.{◌≡◌, List, [], ◌∷◌, ℕ}
+use Rattle.std.specs.Prelude.{◌≡◌, List, ℕ}
 use Rattle.model.specs.Call.{Call, by, Op, view, insert, update, delete, Told}
 use Rattle.model.specs.Run.{answer_of, store_after}
 use Rattle.model.specs.Script.{content_of, output_space}

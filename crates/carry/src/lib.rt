@@ -3,18 +3,30 @@
 
 mod calls;
 
-ghost use Rattle.std.specs.Prelude.{[], ◌∷◌, ◌≤◌, length};
+ghost use Rattle.std.specs.Prelude.{◌≡◌, [], ◌∷◌, ◌≤◌, length};
 ghost use Rattle.model.specs.Script.{unread_line};
 ghost use Rattle.text.specs.Overlay.{Wrote};
+ghost use Rattle.promise.specs.Refusals.{number_of, count_of};
 ghost use Rattle.carry.specs.Lines.{Carried, answer_line};
 
-use script::Line;
+use calls::Done;
+use promise::Refusal;
 
 // A, ?, 0: for a line that does not read.
 fn put_unread(out: &mut [u8]) -> usize
     ensures { Wrote out.old 0 unread_line out.new result }
 {
     text::put_bytes(out, 0, b"A\t?\t0\n")
+}
+
+// The number and the count that an answer tells.
+fn told(answer: Result<usize, Refusal>) -> (u32, usize)
+    ensures { (result.0 ≡ number_of answer) × (result.1 ≡ count_of answer) }
+{
+    match answer {
+        Ok(count) => (0, count),
+        Err(refusal) => (u32::from(refusal), 0),
+    }
 }
 
 // A, the number and the count.
@@ -34,10 +46,11 @@ pub fn carry_out(store: &mut [u8], line: &[u8], path: &mut [u8], out: &mut [u8])
     requires { (192 ≤ length path.old) × (16448 ≤ length out.old) }
     ensures { Carried (line.now ∷ []) store.old out.old result store.new out.new }
 {
-    let Line::Call(read) = script::read_line(line, path) else {
+    let Some(read) = script::read_line(line, path) else {
         return put_unread(out);
     };
     let n = 3 * read.steps;
-    let done = calls::perform(store, read, line, &path[0..n], out);
-    put_answer(out, done.wrote, done.number, done.count as u32)
+    let Done { answer, wrote } = calls::perform(store, read, line, &path[..n], out);
+    let (number, count) = told(answer);
+    put_answer(out, wrote, number, count as u32)
 }

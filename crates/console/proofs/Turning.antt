@@ -1,23 +1,23 @@
 -- Lines, pieces and turns, one behind the other.
 use mathlib.Core.Path.{◌≡◌, refl, sym, ap, subst, ◌∙◌}
-use mathlib.Core.Bool.{Bool, true, false, not, cond}
+use mathlib.Core.Bool.{Bool, true, false, cond}
 use mathlib.Core.List.{List, [], ◌∷◌, ◌++◌, append-nil, append_assoc}
 use Prim.Native.Nat.{ℕ, ◌+◌, ◌-◌, ◌≤◌}
 use native.Mathlib.Omega.{arith}
-use borrow.Author.Tests.{not-true, not-false}
 use borrow.Rule.Slice.PartMut.{put_mid, post_of}
 use lib.ListN.{length, take, drop, length-append, length-drop}
 use lib.Seq.{take_all, take-append-le, take-append-add, drop-append_seam, length-take-le, take-add}
+use Rattle.std.specs.Prelude.{Result, Ok, Err, is_ok, is_err, IfOk}
 use Rattle.model.specs.Lists.{gather}
 use Rattle.model.proofs.Members.{gather_append}
 use mathlib.Core.Option.{Option}
 use Rattle.model.specs.Script.{ScriptCall, Readings, lines_of}
 use Rattle.carry.specs.Lines.{Printed, Carried}
 use Rattle.carry.proofs.Carrying.{readings-append, printed-none, printed-append, printed-alike}
-use Rattle.batch.specs.Pieces.{ended, begun, last, kept, TakenIn}
+use Rattle.batch.specs.Pieces.{ended, begun, last, span, kept, TakenIn}
 use Rattle.batch.proofs.Cuts.{lines-ended, ended-append, begun-append}
 use Rattle.batch.proofs.Keeping.{kept-kept, begun-alike, ended-alike, last-alike}
-use Rattle.console.specs.Turns.{HandedOn, TakenUpTo, Ended, Finished, Closed, Stepped, Turned, Ran}
+use Rattle.console.specs.Turns.{HandedOn, TakenUpTo, Ended, Finished, Closed, Turned, Ran}
 
 -- one of two
 neither : {A : Type 0} {b : Bool} → b ≡ true → b ≡ false → A
@@ -26,12 +26,16 @@ neither e f = let z : ◌≡◌ {A = ℕ} 0 1 = cc in absurd (omega arith)
 -- ---- what is handed on
 
 -- the first bytes of the output, all of them
-module _ (out : List ℕ) (at : ℕ) (h : at ≤ length out) {n : ℕ} (e : n ≡ length (take (at - 0) out)) where
+module _ (out : List ℕ) (at : ℕ) (h : at ≤ length out) {n : ℕ} (e : n ≡ length (take at out)) where
   pub handed-left : at - n ≡ 0
-  handed-left = let z : at - 0 ≡ at = omega arith in omega (arith, e, ap (λ (k : ℕ). length (take k out)) z, length-take-le at out h)
+  handed-left = omega (arith, e, length-take-le at out h)
 
   pub handed-all : HandedOn out at (at - n)
   handed-all = rw handed-left (record { handed = take at out; same = append-nil (take at out) })
+
+-- nothing is
+pub handed-none : (out : List ℕ) (at : ℕ) → HandedOn out at at
+handed-none out at = record { handed = []; same = refl }
 
 -- ---- lines that read alike, one list behind another
 
@@ -158,21 +162,25 @@ module _ {out : List ℕ} {at start : ℕ} (h : HandedOn out at start) (within :
 
 module _ {out : List ℕ} {at start : ℕ} (h : HandedOn out at start) (within : start ≤ length out) (m : ℕ) where
   pub line_taken : {k s o i l' t y : List ℕ} {used w n : ℕ} → TakenIn k s o i used w n l' t y
-      → Stepped true k s (take at out) i used (take n l') t (take (start + w) (put_mid start m out y))
+      → TakenUpTo k s (take at out) i used (take n l') t (take (start + w) (put_mid start m out y))
   line_taken {k} {s} {o} {i} {l'} {t} {y} {used} {w} {n} a =
       record {
-        taken = λ e.
-            record {
-              text = take w y;
-              handed = h.handed;
-              within = a.used-within;
-              lines = a.done.lines;
-              begins = ap kept a.kept-is ∙ kept-kept (begun k (take used i));
-              output = text-behind h within y a.done.within m;
-            };
-        to_end = λ e. a.used-is;
-        stays = λ e. neither refl e;
+        text = take w y;
+        handed = h.handed;
+        within = a.used-within;
+        lines = a.done.lines;
+        begins = ap kept a.kept-is ∙ kept-kept (begun k (take used i));
+        output = text-behind h within y a.done.within m;
       }
+
+-- a line taken in where room was made for what it prints
+pub line-room : {out out1 k k1 s o i l' t y : List ℕ} {at start used w n : ℕ} (m : ℕ) → HandedOn out at start → start ≤ length out → out1 ≡ out → k1 ≡ k
+    → TakenIn k1 s o i used w n l' t y → TakenUpTo k s (take at out) i used (take n l') t (take (start + w) (put_mid start m out1 y)) × (used ≡ span i)
+line-room {out} {k = k} {s = s} {o = o} {i = i} {l' = l'} {t = t} {y = y} {at = at} {start = start} {used = used} {w = w} {n = n} m h within e f a = (
+  subst (λ (l : List ℕ). TakenUpTo k s (take at out) i used (take n l') t (take (start + w) (put_mid start m l y))) (sym e)
+      (line_taken h within m (subst (λ (l : List ℕ). TakenIn l s o i used w n l' t y) f a)),
+  a.used-is,
+)
 
 module _ {out : List ℕ} {at start : ℕ} (h : HandedOn out at start) (within : start ≤ length out) (m : ℕ) where
   -- the last line, without an end
@@ -185,62 +193,92 @@ module _ {out : List ℕ} {at start : ℕ} (h : HandedOn out at start) (within :
 lent-rest : (i : List ℕ) (from : ℕ) → take (length i - from) (drop from i) ≡ drop from i
 lent-rest i from = take_all (length i - from) (drop from i) (omega (arith, length-drop from i))
 
-module _ {k s w i k1 t1 w1 : List ℕ} {from : ℕ} (a : TakenUpTo k s w i from k1 t1 w1) {ok : Bool} {used : ℕ} {k2 t2 w2 : List ℕ}
-    (e : Stepped ok k1 t1 w1 (take (length i - from) (drop from i)) used k2 t2 w2) where
-  module _ (h : not ok ≡ false) where
-    -- it was taken in
-    pub feed-next : TakenUpTo k s w i (from + used) k2 t2 w2
-    feed-next = taken_next a (rw (lent-rest i from) at (e.taken (not-false ok h)))
+-- one line more
+pub feed-next : {k s w i k1 t1 w1 k2 t2 w2 : List ℕ} {from used : ℕ} → TakenUpTo k s w i from k1 t1 w1
+    → TakenUpTo k1 t1 w1 (take (length i - from) (drop from i)) used k2 t2 w2 → TakenUpTo k s w i (from + used) k2 t2 w2
+feed-next {i = i} {from = from} a b = taken_next a (rw (lent-rest i from) at b)
 
--- what it prints is handed on, or could not be
-pub piece-settled : {going whole : Bool} {k s w i k' t out : List ℕ} {at to : ℕ} → Turned going whole k s w i k' t (take at out) → not going ≡ false → HandedOn out at to
-    → (ok : Bool) → Turned ok ok k s w i k' t (take to out)
-piece-settled {going} a n h ok =
-    record {
-      taken = λ e. taken-handed (a.taken (not-false going n)) refl h;
-      ended = λ e. rw e (taken-ended (a.taken (not-false going n)));
-    }
+-- what it prints is handed on
+pub piece-settled : {k s w i k1 k2 t out out' : List ℕ} {u at to : ℕ} → TakenUpTo k s w i u k1 t (take at out) → HandedOn out at to → out' ≡ out → k2 ≡ k1
+    → TakenUpTo k s w i u k2 t (take to out')
+piece-settled {k} {s} {w} {i} {k1} {k2} {t} {out} {out'} {u} {at} {to} a h e f =
+    subst (λ (l : List ℕ). TakenUpTo k s w i u l t (take to out')) (sym f)
+    (subst (λ (l : List ℕ). TakenUpTo k s w i u k1 t (take to l)) (sym e) (taken-handed a refl h))
+
+-- nothing of it was taken in, and it is broken off
+pub broken-before : (k s i : List ℕ) → Ended false k s i s
+broken-before k s i = taken-ended (taken_none k s [] i)
 
 -- ---- the end of the input
 
 -- all lines were carried out, whether or not it was written
-finished-ended : {k s w t w' : List ℕ} → Finished k s w t w' → (whole : Bool) → Ended whole k s [] t
+pub finished-ended : {k s w t w' : List ℕ} → Finished k s w t w' → (whole : Bool) → Ended whole k s [] t
 finished-ended f whole = record { used = 0; closed = true; text = f.text; within = omega arith; lines = f.lines; all = λ e. (refl, refl) }
 
-module _ {k s w t : List ℕ} (out : List ℕ) (at : ℕ) (f : Finished k s w t (take at out)) where
-  finished-handed : {to : ℕ} → HandedOn out at to → Finished k s w t (take to out)
-  finished-handed {to} h =
-      record {
-        text = f.text;
-        handed = f.handed ++ h.handed;
-        lines = f.lines;
-        output = append_assoc f.handed h.handed (take to out) ∙ ap (λ (l : List ℕ). f.handed ++ l) h.same ∙ f.output;
-      }
+pub finished-handed : {k s w t : List ℕ} (out : List ℕ) {at to : ℕ} → Finished k s w t (take at out) → HandedOn out at to → Finished k s w t (take to out)
+finished-handed out {at} {to} f h =
+    record {
+      text = f.text;
+      handed = f.handed ++ h.handed;
+      lines = f.lines;
+      output = append_assoc f.handed h.handed (take to out) ∙ ap (λ (l : List ℕ). f.handed ++ l) h.same ∙ f.output;
+    }
 
-  pub closed-by : {to : ℕ} → HandedOn out at to → to ≡ 0 → (ok : Bool) → Closed ok k s w t (take to out)
-  closed-by h e ok =
-      record {
-        finished = λ q. finished-handed h;
-        handed = λ q. ap (λ (n : ℕ). take n out) e;
-        ended = λ q. finished-ended f false;
-      }
+closing : {A E : Type 0} {k s w t out out' : List ℕ} (at to : ℕ) (r : Result A E) → Finished k s w t (take at out)
+    → IfOk r (λ (x : A). HandedOn out at to × (to ≡ 0)) → out' ≡ out → Closed r k s w t (take to out')
+closing {k = k} {s = s} {w = w} {t = t} {out = out} {out' = out'} at to (Ok x) f h e = (
+  subst (λ (l : List ℕ). Finished k s w t (take to l)) (sym e) (finished-handed out f h.0),
+  ap (λ (n : ℕ). take n out') h.1,
+)
+closing at to (Err x) f h e = finished-ended f false
 
 -- the last line carried out into the output from a place on, and all of it handed on
-pub close-all : {out : List ℕ} {at start : ℕ} → HandedOn out at start → start ≤ length out → (m : ℕ) {k s o t : List ℕ} (y : List ℕ) {w : ℕ} → Carried (last k) s o w t y
-    → {n : ℕ} → n ≡ length (take (start + w - 0) (put_mid start m out y)) → (ok : Bool)
-    → Closed ok k s (take at out) t (take (start + w - n) (put_mid start m out y))
-close-all {out} {at} {start} h within m y {w} c e ok =
+pub close-room : {A E : Type 0} (r : Result A E) {out out1 out2 k k1 s o t y : List ℕ} {at start w : ℕ} (to m : ℕ) → HandedOn out at start → start ≤ length out → out1 ≡ out → k1 ≡ k
+    → Carried (last k1) s o w t y → IfOk r (λ (x : A). HandedOn (put_mid start m out1 y) (start + w) to × (to ≡ 0)) → out2 ≡ put_mid start m out1 y
+    → Closed r k s (take at out) t (take to out2)
+close-room {A} r {s = s} {o = o} {t = t} {y = y} {start = start} {w = w} to m h within e f c i q =
+    closing (start + w) to r (last-finished h within m (subst (λ (l : List ℕ). Carried (last l) s o w t y) f c))
+    (subst (λ (l : List ℕ). IfOk r (λ (x : A). HandedOn (put_mid start m l y) (start + w) to × (to ≡ 0))) e i)
+    (q ∙ ap (λ (l : List ℕ). put_mid start m l y) e)
+
+-- the same where what is handed on is known by its length, whatever came of it
+pub close-all : {out : List ℕ} {at start : ℕ} → HandedOn out at start → start ≤ length out → (m : ℕ) (k : List ℕ) {s o t : List ℕ} (y : List ℕ) {w : ℕ} → Carried (last k) s o w t y
+    → {n : ℕ} → n ≡ length (take (start + w - 0) (put_mid start m out y)) → {A E : Type 0} (r : Result A E)
+    → Closed r k s (take at out) t (take (start + w - n) (put_mid start m out y))
+close-all {out} {at} {start} h within m k y {w} c e (Ok x) =
+    let z : start + w - 0 ≡ start + w = omega arith in
     let fits = laid-fits out y start m w within c.within in
-    closed-by (put_mid start m out y) (start + w) (last-finished h within m c) (handed-all (put_mid start m out y) (start + w) fits e)
-    (handed-left (put_mid start m out y) (start + w) fits e) ok
+    let all = e ∙ ap (λ (k : ℕ). length (take k (put_mid start m out y))) z in (
+      finished-handed (put_mid start m out y) (last-finished h within m c) (handed-all (put_mid start m out y) (start + w) fits all),
+      ap (λ (k : ℕ). take k (put_mid start m out y)) (handed-left (put_mid start m out y) (start + w) fits all),
+    )
+close-all h within m k y c e (Err x) = finished-ended (last-finished h within m c) false
+
+-- ---- a result that is an error
+
+-- where there was no room nothing was done
+pub closed-refused : {A E : Type 0} (k s w w' : List ℕ) (r : Result A E) → is_err r ≡ true → Closed r k s w s w'
+closed-refused k s w w' (Ok x) h = neither h refl
+closed-refused k s w w' (Err e) h = broken-before k s []
+
+-- what a piece printed could not be handed on
+pub turned-broken : {A E : Type 0} (k s w i k' t w' : List ℕ) (r : Result A E) → is_err r ≡ true → Ended false k s i t → Turned r k s w i k' t w'
+turned-broken k s w i k' t w' (Ok x) h e = neither h refl
+turned-broken k s w i k' t w' (Err x) h e = e
+
+pub ran-broken : {A E : Type 0} {s t : List ℕ} (r : Result A E) → is_err r ≡ true → Ran false s t → Ran (is_ok r) s t
+ran-broken (Ok x) h q = neither h refl
+ran-broken (Err e) h q = q
 
 -- a run is whole only if the input ended and all was written
-pub closed-ended : {ok : Bool} {k s w t w' : List ℕ} → Closed ok k s w t w' → Ended ok k s [] t
-closed-ended {ok} {k} {s} {w} {t} {w'} c = go ok c.finished c.ended
-  where
-    go : (b : Bool) → (b ≡ true → Finished k s w t w') → (b ≡ false → Ended false k s [] t) → Ended b k s [] t
-    go true f g = finished-ended (f refl) true
-    go false f g = g refl
+pub closed-ended : {A E : Type 0} {k s t : List ℕ} (w w' : List ℕ) (r : Result A E) → Closed r k s w t w' → Ended (is_ok r) k s [] t
+closed-ended w w' (Ok x) c = finished-ended c.0 true
+closed-ended w w' (Err e) c = c
+
+-- where the input broke off it is not whole in any case
+pub closed-broken : {A E : Type 0} {k s t : List ℕ} (w w' : List ℕ) (r : Result A E) → Closed r k s w t w' → Ended false k s [] t
+closed-broken w w' (Ok x) c = finished-ended c.0 false
+closed-broken w w' (Err e) c = c
 
 -- ---- turns
 
@@ -277,21 +315,23 @@ pub record Running (s₀ line store out : List ℕ) (n at : ℕ) : Type 0 where
   pub pieces : List (List ℕ)
   pub taken : TakenUpTo [] s₀ [] (gather (λ p. p) pieces) (length (gather (λ p. p) pieces)) (take n line) store (take at out)
 
-pub run-start : (s line out : List ℕ) → Running s line s out 0 0
+run-start : (s line out : List ℕ) → Running s line s out 0 0
 run-start s line out = record { pieces = []; taken = taken_none [] s [] [] }
+
+pub run-begun : (s line out : List ℕ) {n : ℕ} → n ≡ 0 → Running s line s out n 0
+run-begun s line out e = subst (λ (k : ℕ). Running s line s out k 0) (sym e) (run-start s line out)
 
 module _ {s₀ line store out : List ℕ} {n at : ℕ} (r : Running s₀ line store out n at) (p : List ℕ) where
   -- one piece more
   one_more : gather (λ q. q) (r.pieces ++ (p ∷ [])) ≡ gather (λ q. q) r.pieces ++ p
   one_more = gather_append (λ q. q) r.pieces (p ∷ []) ∙ ap (λ (l : List ℕ). gather (λ q. q) r.pieces ++ l) (append-nil p)
 
-  pub run-next : {going whole : Bool} {line' store' out' : List ℕ} {n' at' : ℕ}
-      → Turned going whole (take n line) store (take at out) p (take n' line') store' (take at' out') → not going ≡ false → Running s₀ line' store' out' n' at'
-  run-next {going} t h = record { pieces = r.pieces ++ (p ∷ []); taken = rw one_more (both-taken r.taken p (t.taken (not-false going h))) }
+  pub run-next : {line' store' out' : List ℕ} {n' at' : ℕ}
+      → TakenUpTo (take n line) store (take at out) p (length p) (take n' line') store' (take at' out') → Running s₀ line' store' out' n' at'
+  run-next t = record { pieces = r.pieces ++ (p ∷ []); taken = rw one_more (both-taken r.taken p t) }
 
-  pub run-ended : {going whole : Bool} {k' store' w' : List ℕ} → Turned going whole (take n line) store (take at out) p k' store' w' → not going ≡ true
-      → Ran whole s₀ store'
-  run-ended {going} t h = record { pieces = r.pieces ++ (p ∷ []); ends = rw one_more (both-ended r.taken p (t.ended (not-true going h))) }
+  pub run-ended : {whole : Bool} {store' : List ℕ} → Ended whole (take n line) store p store' → Ran whole s₀ store'
+  run-ended e = record { pieces = r.pieces ++ (p ∷ []); ends = rw one_more (both-ended r.taken p e) }
 
 -- the turns are at their end
 pub run_out : {s₀ line store out : List ℕ} {n at : ℕ} → Running s₀ line store out n at → Ran false s₀ store

@@ -1,6 +1,6 @@
 -- What is done with the bytes that came: the store, the bytes kept of a line begun, and the output that is not yet written. What the
 -- system read and wrote is not spoken of; that what leaves the buffer was handed on to be written is.
-use Rattle.std.specs.Prelude.{◌≡◌, Bool, true, false, cond, List, [], ◌++◌, ℕ, ◌≤◌, length, take}
+use Rattle.std.specs.Prelude.{◌≡◌, Result, Ok, Err, Bool, true, false, cond, List, [], ◌++◌, ℕ, ◌≤◌, length, take}
 use Rattle.model.specs.Lists.{gather}
 use Rattle.carry.specs.Lines.{Printed}
 use Rattle.batch.specs.Pieces.{ended, begun, last, span, kept}
@@ -30,11 +30,10 @@ pub record Ended (whole : Bool) (k s i t : List ℕ) : Type 0 where
   pub lines : Printed (ended k (take used i) ++ cond closed (last (begun k (take used i))) []) s text t
   pub all : whole ≡ true → (used ≡ length i) × (closed ≡ true)
 
--- a line, or what there is of one: it was taken in, or there was no room and nothing was done
-pub record Stepped (ok : Bool) (k s w i : List ℕ) (used : ℕ) (k' t w' : List ℕ) : Type 0 where
-  pub taken : ok ≡ true → TakenUpTo k s w i used k' t w'
-  pub to_end : ok ≡ true → used ≡ span i
-  pub stays : ok ≡ false → t ≡ s
+-- a line, or what there is of one: so much of the input was taken in, or there was no room and nothing was done
+abbrev pub Stepped : {E : Type 0} → Result ℕ E → (k s w i k' t w' : List ℕ) → Type 0
+Stepped (Ok used) k s w i k' t w' = TakenUpTo k s w i used k' t w' × (used ≡ span i)
+Stepped (Err e) k s w i k' t w' = t ≡ s
 
 -- a last line without an end, if there is one, left the store t, and what was handed on and what is not yet written are w and its text
 pub record Finished (k s w t w' : List ℕ) : Type 0 where
@@ -44,15 +43,14 @@ pub record Finished (k s w t w' : List ℕ) : Type 0 where
   pub output : handed ++ w' ≡ w ++ text
 
 -- the end of the input: all of it was carried out and handed on, or it was ended
-pub record Closed (ok : Bool) (k s w t w' : List ℕ) : Type 0 where
-  pub finished : ok ≡ true → Finished k s w t w'
-  pub handed : ok ≡ true → w' ≡ []
-  pub ended : ok ≡ false → Ended false k s [] t
+abbrev pub Closed : {A E : Type 0} → Result A E → (k s w t w' : List ℕ) → Type 0
+Closed (Ok x) k s w t w' = Finished k s w t w' × (w' ≡ [])
+Closed (Err e) k s w t w' = Ended false k s [] t
 
--- a piece of input: all of it was taken in and it goes on, or it was ended
-pub record Turned (going whole : Bool) (k s w i k' t w' : List ℕ) : Type 0 where
-  pub taken : going ≡ true → TakenUpTo k s w i (length i) k' t w'
-  pub ended : going ≡ false → Ended whole k s i t
+-- a piece of input: all of it was taken in, or it was ended
+abbrev pub Turned : {A E : Type 0} → Result A E → (k s w i k' t w' : List ℕ) → Type 0
+Turned (Ok x) k s w i k' t w' = TakenUpTo k s w i (length i) k' t w'
+Turned (Err e) k s w i k' t w' = Ended false k s i t
 
 -- a run: there are pieces of input, one a turn, of whose lines the first, all if `whole`, lead from the store s to the store t
 pub record Ran (whole : Bool) (s t : List ℕ) : Type 0 where

@@ -1,47 +1,19 @@
 // View: the listing of a path.
-ghost use Rattle.std.specs.Prelude.{length};
-ghost use Rattle.model.specs.Call as calls;
-ghost use Rattle.model.specs.Call.{counted};
-ghost use Rattle.promise.specs.Did.{Acted, Viewed};
-ghost use Rattle.table.specs.Opening.{Lent};
+ghost use Rattle.promise.specs.Did.{Viewed};
+ghost use Rattle.promise.specs.Refusals.{number_of, count_of};
 
-use crate::Answer;
-use table::Opening;
+use promise::Refusal;
 
 // Lists the path and all that is in view below it into the output: how many bytes were written.
-pub fn view(store: &[u8], subject: u32, path: &[u8], output: &mut [u8]) -> Answer
-    ensures { Viewed subject path.now store.now output.old result.number result.count output.new }
+pub fn view(store: &[u8], subject: u32, path: &[u8], output: &mut [u8]) -> Result<usize, Refusal>
+    ensures { Viewed subject path.now store.now output.old (number_of result) (count_of result) output.new }
 {
-    match table::open(store, subject) {
-        Opening::Refused(number) => Answer { number, count: 0 },
-        Opening::Open(label) => act(store, label, path, output),
-    }
-}
-
-// The same for a label, where rows 1 and 2 have passed: the listing, if it fits.
-fn act(store: &[u8], label: u8, path: &[u8], output: &mut [u8]) -> Answer
-    requires { Lent store.now label }
-    ensures { Acted (calls.view path.now (length output.old)) label store.now output.old (counted result.number result.count) store.now output.new }
-{
-    if store::some_raw(store, label) {
-        return Answer {
-            number: 3,
-            count: 0,
-        };
-    }
-    let number = table::look_row(store, label, path);
-    if number != 0 {
-        return Answer { number, count: 0 };
-    }
-    let total = listing::list(store, label, path, output);
+    let label = table::open(store, subject)?;
+    let reader = table::check_formed(store, label)?;
+    table::check_seen(&reader, path)?;
+    let total = listing::list(&reader, path, output);
     if output.len() < total {
-        return Answer {
-            number: 10,
-            count: 0,
-        };
+        return Err(Refusal::OutputShort);
     }
-    Answer {
-        number: 0,
-        count: total,
-    }
+    Ok(total)
 }

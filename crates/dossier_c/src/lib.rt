@@ -1,8 +1,14 @@
 // The calls as C functions. A slice is passed as a pointer and a length; the result is returned by value.
 #![tactic(auto)]
 
+ghost use Rattle.std.specs.Prelude.{◌≡◌};
 ghost use Rattle.promise.specs.Did.{Viewed, Inserted, Updated, Deleted, ViewedXml, Graded, InsertedXml};
 ghost use Rattle.promise.specs.Migrated.{Migrated};
+ghost use Rattle.promise.specs.Refusals.{number_of, count_of};
+ghost use Rattle.dossier_grade.specs.Sights.{step_in, remainder_in};
+
+use dossier_grade::Even;
+use promise::Refusal;
 
 // What a call answers: 0 or the number of its refusal, and its count.
 #[repr(C)]
@@ -29,16 +35,65 @@ pub struct Migration {
     pub mask: u32,
 }
 
+// A count, or the number of a refusal and 0.
+impl From<Result<usize, Refusal>> for Answer {
+    ghost from_gives = { λ done told. told ≡ record { number = number_of done; count = count_of done } };
+
+    fn from(done: Result<usize, Refusal>) -> Answer {
+        match done {
+            Ok(count) => Answer {
+                number: 0,
+                count: count as u64,
+            },
+            Err(refusal) => Answer {
+                number: u32::from(refusal),
+                count: 0,
+            },
+        }
+    }
+}
+
+// A step and a remainder, or the number of a refusal, 0 and 0.
+impl From<Result<Even, Refusal>> for Grade {
+    ghost from_gives = { λ done told. told ≡ record { number = number_of done; step = step_in done; remainder = remainder_in done } };
+
+    fn from(done: Result<Even, Refusal>) -> Grade {
+        match done {
+            Ok(even) => Grade {
+                number: 0,
+                step: even.step,
+                remainder: even.remainder,
+            },
+            Err(refusal) => Grade {
+                number: u32::from(refusal),
+                step: 0,
+                remainder: 0,
+            },
+        }
+    }
+}
+
+// A mask, or the number of a refusal and 0.
+impl From<Result<u32, Refusal>> for Migration {
+    ghost from_gives = { λ done told. told ≡ record { number = number_of done; mask = count_of done } };
+
+    fn from(done: Result<u32, Refusal>) -> Migration {
+        match done {
+            Ok(mask) => Migration { number: 0, mask },
+            Err(refusal) => Migration {
+                number: u32::from(refusal),
+                mask: 0,
+            },
+        }
+    }
+}
+
 // Lists the path and everything in the subject's view below it into the output: how many bytes were written.
 #[unsafe(no_mangle)]
 pub extern "C" fn dossier_view(store: &[u8], subject: u32, path: &[u8], output: &mut [u8]) -> Answer
     ensures { Viewed subject path.now store.now output.old result.number result.count output.new }
 {
-    let done = dossier::view(store, subject, path, output);
-    Answer {
-        number: done.number,
-        count: done.count as u64,
-    }
+    Answer::from(dossier::view(store, subject, path, output))
 }
 
 // Inserts an element into the subject's partition.
@@ -52,11 +107,7 @@ pub extern "C" fn dossier_insert(
 ) -> Answer
     ensures { Inserted subject path.now kind value.now store.old result.number result.count store.new }
 {
-    let done = dossier::insert(store, subject, path, kind, value);
-    Answer {
-        number: done.number,
-        count: done.count as u64,
-    }
+    Answer::from(dossier::insert(store, subject, path, kind, value))
 }
 
 // Updates an element: it gets the kind and the value, and what is below it stays. It counts one, the element.
@@ -70,11 +121,7 @@ pub extern "C" fn dossier_update(
 ) -> Answer
     ensures { Updated subject path.now kind value.now store.old result.number result.count store.new }
 {
-    let done = dossier::update(store, subject, path, kind, value);
-    Answer {
-        number: done.number,
-        count: done.count as u64,
-    }
+    Answer::from(dossier::update(store, subject, path, kind, value))
 }
 
 // Deletes the path and all of the subject's label that extends it: how many elements went.
@@ -82,11 +129,7 @@ pub extern "C" fn dossier_update(
 pub extern "C" fn dossier_delete(store: &mut [u8], subject: u32, path: &[u8]) -> Answer
     ensures { Deleted subject path.now store.old result.number result.count store.new }
 {
-    let gone = dossier::delete(store, subject, path);
-    Answer {
-        number: gone.number,
-        count: gone.count as u64,
-    }
+    Answer::from(dossier::delete(store, subject, path))
 }
 
 // Writes the path and everything in the subject's view below it into the output as XML: how many bytes were written.
@@ -99,11 +142,7 @@ pub extern "C" fn dossier_view_xml(
 ) -> Answer
     ensures { ViewedXml subject path.now store.now output.old result.number result.count output.new }
 {
-    let done = dossier_xml::view_xml(store, subject, path, output);
-    Answer {
-        number: done.number,
-        count: done.count as u64,
-    }
+    Answer::from(dossier_xml::view_xml(store, subject, path, output))
 }
 
 // The even grade from the measure at one path to the measure at another in n sizes: the step, rounded down, and the remainder.
@@ -117,12 +156,7 @@ pub extern "C" fn dossier_grade(
 ) -> Grade
     ensures { Graded subject base.now top.now n store.now result.number result.step result.remainder }
 {
-    let done = dossier_grade::grade(store, subject, base, top, n);
-    Grade {
-        number: done.number,
-        step: done.step,
-        remainder: done.remainder,
-    }
+    Grade::from(dossier_grade::grade(store, subject, base, top, n))
 }
 
 // Takes in a whole style as XML, all of its elements or none, below the parent in the subject's partition: how many came.
@@ -135,11 +169,7 @@ pub extern "C" fn dossier_insert_xml(
 ) -> Answer
     ensures { InsertedXml subject parent.now text.now store.old result.number result.count store.new }
 {
-    let done = dossier_intake::insert_xml(store, subject, parent, text);
-    Answer {
-        number: done.number,
-        count: done.count as u64,
-    }
+    Answer::from(dossier_intake::insert_xml(store, subject, parent, text))
 }
 
 // Gives each partition that is well formed in the order of before 7/14 the same elements in path order: the mask of the others.
@@ -147,9 +177,5 @@ pub extern "C" fn dossier_insert_xml(
 pub extern "C" fn dossier_migrate(store: &mut [u8]) -> Migration
     ensures { Migrated store.old (record { number = result.number; mask = result.mask }) store.new }
 {
-    let told = dossier_migrate::migrate(store);
-    Migration {
-        number: told.number,
-        mask: told.mask,
-    }
+    Migration::from(dossier_migrate::migrate(store))
 }

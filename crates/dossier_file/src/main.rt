@@ -7,11 +7,11 @@ mod finding;
 mod saving;
 mod telling;
 
-ghost use Rattle.std.specs.Prelude.{◌≡◌, ◌≤◌, length, IfOk};
+ghost use Rattle.std.specs.Prelude.{◌≡◌, ◌≤◌, length, is_ok, IfOk};
 ghost use Rattle.model.specs.Store.{empty_store};
 ghost use Rattle.console.specs.Turns.{Ran};
 
-use file_names::about;
+use console::BrokenOff;
 use file_names::about::Known;
 use std::env::FillError;
 use std::fs::File;
@@ -22,7 +22,7 @@ use std::rt::Env;
 // The system's number for an argument that is not valid.
 const INVALID: i32 = 22;
 
-// How many bytes were read, and by what error a read failed, if one did.
+// How many bytes were read, and by what error a read failed, if one did. No Result: the bytes that came before a failed read count too.
 #[derive(Drop)]
 struct Filled {
     count: usize,
@@ -41,10 +41,7 @@ fn main(rt: HostRuntime) {
 // Whether there is an argument i.
 fn has_argument(rt: &HostRuntime, i: usize) -> bool {
     let mut space = [0u8; 1];
-    match rt.arg(i, &mut space) {
-        Err(FillError::NotPresent) => false,
-        _ => true,
-    }
+    !matches!(rt.arg(i, &mut space), Err(FillError::NotPresent))
 }
 
 // Takes the word. It leaves room for what a new file's name has more.
@@ -104,20 +101,17 @@ fn start_without(rt: &HostRuntime, name: &str, error: Error)
     }
 }
 
-// An open file is read if it is a regular one. The bytes have room for one more than a store has, so that a longer file is seen.
+// An open file is read if the system says that it is a regular one. The bytes have room for one more than a store has, so that a longer file is seen.
 fn start_with(rt: &HostRuntime, file: File, name: &str)
     requires { length name.now ≤ 4088 }
 {
-    let known = match asking::known_of(&file) {
-        Ok(known) => known,
-        Err(_) => about::nothing(),
-    };
-    if !asking::is_regular(known.mode) {
-        telling::is_irregular(rt, name);
-        return;
+    match asking::known_of(&file) {
+        Ok(known) if asking::is_regular(known.mode) => {
+            let mut bytes = [0u8; 41089];
+            read(rt, file, name, &mut bytes, known);
+        }
+        _ => telling::is_irregular(rt, name),
     }
-    let mut bytes = [0u8; 41089];
-    read(rt, file, name, &mut bytes, known);
 }
 
 // Reads the file, to its end or as far as the bytes have room, and goes on with what came. Where a read fails, says so.
@@ -146,6 +140,7 @@ fn read_full(file: &mut File, bytes: &mut [u8]) -> Filled
     ensures { result.count ≤ length bytes.new }
 {
     let mut count = 0;
+    // A `while`: how far a read comes is known only when it is done.
     while count < bytes.len() {
         match file.read(&mut bytes[count..]) {
             Ok(0) => break,
@@ -182,7 +177,7 @@ fn go_on(rt: &HostRuntime, name: &str, bytes: &mut [u8], known: Known)
         go_on_store(rt, name, bytes, known);
         return;
     }
-    carry_out(rt, name, bytes);
+    let _ = carry_out(rt, name, bytes);
 }
 
 // A missing file begins as the empty store, which is zeros.
@@ -197,7 +192,7 @@ fn begin_empty(rt: &HostRuntime, name: &str)
 fn begin(rt: &HostRuntime, name: &str, store: &mut [u8])
     requires { (length name.now ≤ 4088) × (store.old ≡ empty_store) }
 {
-    if carry_out(rt, name, store) {
+    if carry_out(rt, name, store).is_ok() {
         saving::save_new(rt, name, store);
     }
 }
@@ -215,18 +210,18 @@ fn change(rt: &HostRuntime, name: &str, store: &mut [u8], before: &mut [u8; 4108
     requires { (length name.now ≤ 4088) × (length store.old ≡ 41088) }
 {
     before.copy_from_slice(store);
-    if carry_out(rt, name, store) {
+    if carry_out(rt, name, store).is_ok() {
         saving::save_over(rt, name, store, before, known);
     }
 }
 
-// Carries out the script on the bytes as they are. Where that is not done to the end, says so and yields false.
-fn carry_out(rt: &HostRuntime, name: &str, bytes: &mut [u8]) -> bool
-    ensures { Ran result bytes.old bytes.new }
+// Carries out the script on the bytes as they are. Where that is not done to the end, says so.
+fn carry_out(rt: &HostRuntime, name: &str, bytes: &mut [u8]) -> Result<(), BrokenOff>
+    ensures { Ran (is_ok result) bytes.old bytes.new }
 {
-    if console::run(&mut rt.stdin(), &mut rt.stdout(), bytes) {
-        return true;
+    let done = console::run(&mut rt.stdin(), &mut rt.stdout(), bytes);
+    if done.is_err() {
+        telling::broken_off(rt, name);
     }
-    telling::broken_off(rt, name);
-    false
+    done
 }

@@ -6,7 +6,7 @@ ghost use Rattle.console.specs.Turns.{Ran};
 
 use crate::{asking, finding, telling};
 use file_names::about;
-use file_names::about::Known;
+use file_names::about::{Known, Rights};
 use std::fmt::{InlineText, Write as _};
 use std::fs::{File, OpenOptions, Permissions};
 use std::io::{Error, ErrorKind, Write};
@@ -27,13 +27,25 @@ struct New {
     name: InlineText<4096>,
 }
 
+// Why a store could not be saved: the file is not the one that was read any more, or the system's error.
+#[derive(Drop)]
+enum Unsaved {
+    Changed,
+    Failed(Error),
+}
+
+impl From<Error> for Unsaved {
+    fn from(error: Error) -> Unsaved {
+        Unsaved::Failed(error)
+    }
+}
+
 // Saves a store where there was no file, and says that it was made. It is what a whole script's lines leave of the empty store.
 pub fn save_new(rt: &HostRuntime, name: &str, store: &[u8])
     requires name_len_bound { (length name.now ≤ 4088) × (length store.now ≡ 41088) }
     requires ran { Ran true empty_store store.now }
 {
-    let none = about::none();
-    if save(rt, name, store, none) {
+    if save(rt, name, store, None) {
         telling::made(rt, name);
     }
 }
@@ -48,14 +60,15 @@ pub fn save_over(rt: &HostRuntime, name: &str, store: &[u8], before: &[u8], read
     }
     match asking::may_be_written(rt, name) {
         Ok(()) => {
-            save(rt, name, store, read);
+            save(rt, name, store, Some(read));
         }
         Err(error) => telling::not_saved(rt, name, error),
     }
 }
 
-// Saves a store, by a new file beside the one that was read, of which this is known. Yields whether it was saved; if not, says so.
-fn save(rt: &HostRuntime, name: &str, store: &[u8], read: Known) -> bool
+// Saves a store, by a new file beside the one that was read, of which this is known. Yields whether it was saved; if not, says so. A
+// bool and no Result: the error is told here, and who calls needs to know only whether to say that a store was made.
+fn save(rt: &HostRuntime, name: &str, store: &[u8], read: Option<Known>) -> bool
     requires { (length name.now ≤ 4088) × (length store.now ≡ 41088) }
 {
     match make(rt, name) {
@@ -75,11 +88,8 @@ fn make(rt: &HostRuntime, name: &str) -> io::Result<New>
         let new = new_name(name, letters(rt)?.as_str());
         match create(rt, new.as_str()) {
             Ok(file) => return Ok(New { file, name: new }),
-            Err(error) => {
-                if error.kind() != ErrorKind::AlreadyExists {
-                    return Err(error);
-                }
-            }
+            Err(error) if error.kind() == ErrorKind::AlreadyExists => {}
+            Err(error) => return Err(error),
         }
     }
     Err(Error::from_raw_os_error(NAME_TAKEN))
@@ -131,18 +141,18 @@ fn create(rt: &HostRuntime, name: &str) -> io::Result<File> {
         .open(rt, name)
 }
 
-// Puts the new file into the old one's place. Where that fails the new file is taken away and the old one stays.
-fn replace(rt: &HostRuntime, new: New, name: &str, store: &[u8], read: Known) -> bool
+// Puts the new file into the old one's place. Where that fails the new file is taken away and the old one stays. Yields whether it is
+// there; if not, says so. A bool and no Result, as of `save`: the new file is taken away after the error is told.
+fn replace(rt: &HostRuntime, new: New, name: &str, store: &[u8], read: Option<Known>) -> bool
     requires { length name.now ≤ 4088 }
 {
     let New { file, name: text } = new;
     let new_name = text.as_str();
-    if let Err(error) = fill(file, store, read) {
-        telling::not_saved(rt, name, error);
-        let _ = fs::remove_file(rt, new_name);
-        return false;
-    }
-    if !give_name(rt, new_name, name, read) {
+    if let Err(why) = put(rt, file, new_name, name, store, read) {
+        match why {
+            Unsaved::Changed => telling::changed(rt, name),
+            Unsaved::Failed(error) => telling::not_saved(rt, name, error),
+        }
         let _ = fs::remove_file(rt, new_name);
         return false;
     }
@@ -150,57 +160,44 @@ fn replace(rt: &HostRuntime, new: New, name: &str, store: &[u8], read: Known) ->
     true
 }
 
+// Fills the new file and gives it the store's name, if that is still borne by the file that was read.
+fn put(
+    rt: &HostRuntime,
+    file: File,
+    new: &str,
+    name: &str,
+    store: &[u8],
+    read: Option<Known>,
+) -> Result<(), Unsaved> {
+    fill(file, store, about::rights_beside(read))?;
+    check_as_read(rt, name, read)?;
+    fs::rename(rt, new, name)?;
+    Ok(())
+}
+
 // Writes the store to the new file, gives it its rights, waits until both have reached the device, and closes it.
-fn fill(mut file: File, store: &[u8], read: Known) -> io::Result<()> {
+fn fill(mut file: File, store: &[u8], rights: Rights) -> io::Result<()> {
     file.write_all(store)?;
-    set_rights(&file, read.owner, read.group, read.mode & 0o7777)?;
+    set_rights(&file, rights)?;
     file.sync_all()
 }
 
 // Sets a new file's owner, group and mode. Only root can make it another owner's, so this may fail; the group has to be kept, since
 // the mode speaks of it.
-fn set_rights(file: &File, owner: u32, group: u32, mode: u32) -> io::Result<()> {
-    if fchown(file, Some(owner), Some(group)).is_err() {
-        fchown(file, None, Some(group))?;
+fn set_rights(file: &File, rights: Rights) -> io::Result<()> {
+    if fchown(file, rights.owner, rights.group).is_err() {
+        fchown(file, None, rights.group)?;
     }
-    file.set_permissions(Permissions::from_mode(mode))
+    file.set_permissions(Permissions::from_mode(rights.mode))
 }
 
-// Gives the new file the store's name, if that is still borne by the file that was read. Yields whether it has it; if not, says so.
-fn give_name(rt: &HostRuntime, new: &str, name: &str, read: Known) -> bool
-    requires { length name.now ≤ 4088 }
-{
-    if !is_as_read(rt, name, read) {
-        return false;
+// Whether the name is still borne by the file that was read, as it was then, or by none where there was none. If not, why: the file is
+// another, or the system did not tell which it is.
+fn check_as_read(rt: &HostRuntime, name: &str, read: Option<Known>) -> Result<(), Unsaved> {
+    if asking::is_link(rt, name) || !about::same(finding::look(rt, name)?, read) {
+        return Err(Unsaved::Changed);
     }
-    match fs::rename(rt, new, name) {
-        Ok(()) => true,
-        Err(error) => {
-            telling::not_saved(rt, name, error);
-            false
-        }
-    }
-}
-
-// Whether the name is still borne by the file that was read, as it was then, or by none where there was none. If not, says so: the
-// file is another, or the system did not tell which it is.
-fn is_as_read(rt: &HostRuntime, name: &str, read: Known) -> bool
-    requires { length name.now ≤ 4088 }
-{
-    if asking::is_link(rt, name) {
-        telling::changed(rt, name);
-        return false;
-    }
-    match finding::look(rt, name) {
-        Ok(now) => {
-            if about::same(now, read) {
-                return true;
-            }
-            telling::changed(rt, name);
-        }
-        Err(error) => telling::not_saved(rt, name, error),
-    }
-    false
+    Ok(())
 }
 
 // Waits until the new name has reached the device. Where that cannot be had, says so.

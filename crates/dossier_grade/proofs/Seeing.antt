@@ -11,7 +11,7 @@ use mir.Facts.{not_T, T_not}
 use Rattle.model.specs.Lists.{◌∈◌}
 use Rattle.model.specs.Label.{dominates}
 use Rattle.model.specs.Path.{Step, valid_path, ends_in, steps_of}
-use Rattle.model.specs.Value.{Content, storable}
+use Rattle.model.specs.Value.{Content, allowed, storable}
 use Rattle.model.specs.Element.{Element, valid_element, contains}
 use Rattle.model.specs.Slot.{slot_size, read_content}
 use Rattle.model.specs.Partition.{partition_size, slot_at, read_partition}
@@ -31,16 +31,19 @@ use Rattle.partition.proofs.Contents.{found-content}
 use Rattle.store.specs.Opened.{Opened}
 use Rattle.store.proofs.Viewing.{opened-formed, opened-set, view-root}
 use Rattle.table.proofs.Walking.{told-yes, told-no, failed, other_path}
+use Rattle.kind.specs.declared.Kind.{Kind}
 use Rattle.kind.specs.declared.Rule.{Rule}
+use Rattle.kind.specs.Code.{code}
 use Rattle.kind.specs.Rule.{rule_of}
-use Rattle.kind.proofs.Rules.{number-kind}
+use Rattle.kind.proofs.Rules.{number-kind, known-kind}
 use Rattle.text.proofs.Showing.{measure-length}
-use Rattle.dossier_grade.specs.declared.sighting.Sight.{Sight}
-use Rattle.dossier_grade.specs.declared.sighting.Sight.TheVariants.{Unseen, Other, Measure}
+use Rattle.std.specs.Prelude.{Some, None, Result, Ok, Err}
+use Rattle.std.specs.Prelude as plain
+use Rattle.promise.specs.declared.Refusal.TheVariants.{Absent}
 use Rattle.dossier_grade.specs.Sights.{sight_of, sight_at, PathPartition}
 
 -- a path that is not in view, and one in view with its content
-unseen-at : (s : ℕ) (b : List ℕ) (p : List Step) → T (not (in_view s (open_model b) p)) → Unseen ≡ sight_at s b p
+unseen-at : (s : ℕ) (b : List ℕ) (p : List Step) → T (not (in_view s (open_model b) p)) → Err Absent ≡ sight_at s b p
 unseen-at s b p t = sym (ap (λ (v : Bool). sight_of v (content_at (visible s (open_model b)) p)) (is_false (in_view s (open_model b) p) t))
 
 content-at : (s : ℕ) (b : List ℕ) (p : List Step) {c : Option Content} → T (in_view s (open_model b) p) → content_at (visible s (open_model b)) p ≡ c
@@ -62,7 +65,7 @@ root-bare s b =
     let p : T (valid_path r.0.path) = search (and_l, and_r) in
     rw (← r.2) at p))
 
-pub sees-root : (s : ℕ) (b p : List ℕ) → length p < 3 → Other ≡ sight_at s b (steps_of p)
+pub sees-root : (s : ℕ) (b p : List ℕ) → length p < 3 → Ok None ≡ sight_at s b (steps_of p)
 sees-root s b p h =
     content-at s b (steps_of p) (subst T (view-root s b p h) tt)
     (ap (content_at (visible s (open_model b))) (root-steps p h) ∙ root-bare s b)
@@ -77,7 +80,7 @@ ends p good = subst T (last-label p (get_or p (length p - 1) 0) (good-path p goo
 
 module _ {b : List ℕ} {s : ℕ} (o : Opened b s) (p : List ℕ) (good : T (good_path p)) {r : Bool} (e : r ≡ dominates s (get_or p (length p - 1) 0)) where
   -- of a label that the subject does not dominate it is not in view
-  pub sees-none : r ≡ false → Unseen ≡ sight_at s b (steps_of p)
+  pub sees-none : r ≡ false → Err Absent ≡ sight_at s b (steps_of p)
   sees-none t =
       unseen-at s b (steps_of p)
       (not_T (in_view s (open_model b) (steps_of p))
@@ -104,8 +107,8 @@ module _ {b : List ℕ} {s : ℕ} (p : List ℕ) {x : List ℕ} (l : PathPartiti
 
   module _ {at : ℕ} {found : Bool} (h : Found x (steps_of p) at found) where
     -- found: it is in view, and seen as its content is
-    pub sees-found : found ≡ true → {z : List ℕ} → (z ≡ slot_at x at) × (length z ≡ slot_size) → {y : Sight} → y ≡ sight_of true (some (read_content z))
-        → y ≡ sight_at s b (steps_of p)
+    pub sees-found : found ≡ true → {z : List ℕ} → (z ≡ slot_at x at) × (length z ≡ slot_size) → {y : plain.Option ℕ} → Ok y ≡ sight_of true (some (read_content z))
+        → Ok y ≡ sight_at s b (steps_of p)
     sees-found there-is {z} g e =
         let c : content_at (visible s (open_model b)) (steps_of p) ≡ some (read_content z) = there ∙ found-content path-partition-formed h there-is g in
         let has : T (contains (visible s (open_model b)) (steps_of p)) =
@@ -114,30 +117,35 @@ module _ {b : List ℕ} {s : ℕ} (p : List ℕ) {x : List ℕ} (l : PathPartiti
 
     -- not found, and in view or not
     module _ {w : Bool} (i : w ≡ in_view s (open_model b) (steps_of p)) where
-      pub sees-removed : found ≡ false → w ≡ true → Other ≡ sight_at s b (steps_of p)
+      pub sees-removed : found ≡ false → w ≡ true → Ok None ≡ sight_at s b (steps_of p)
       sees-removed none_is t =
           content-at s b (steps_of p) (told-yes i t) (there ∙ content-none (read_partition x) (steps_of p) (told-no h.found-is none_is))
 
-      pub sees-nothing : w ≡ false → Unseen ≡ sight_at s b (steps_of p)
+      pub sees-nothing : w ≡ false → Err Absent ≡ sight_at s b (steps_of p)
       sees-nothing t = unseen-at s b (steps_of p) (told-no i t)
 
 -- ---- a content, by the rule of its kind
 
-module _ (c : Content) {k w : ℕ} (e : k ≡ c.kind) (f : (w ≡ k) × (w < 256)) {r : Rule} (q : r ≡ rule_of w) where
-  by_kind : r.number ≡ eqb c.kind 1
-  by_kind = ap (λ (x : Rule). x.number) (q ∙ ap rule_of (f.0 ∙ e)) ∙ number-kind c.kind
+-- a stored one has a kind
+pub kind-known : (c : Content) {n : ℕ} → n ≡ c.kind → T (storable c) → n < 3
+unfolding storable
+kind-known c e t = rw e (known-kind c.kind c.value t)
 
-  pub content-other : r.number ≡ false → Other ≡ sight_of true (some c)
-  content-other t = sym (cond_no (eqb c.kind 1) (Measure (measure_of c.value)) Other (failed by_kind t))
+module _ (c : Content) (k : Kind) (e : code k ≡ c.kind) {r : Rule} (q : r ≡ rule_of k) where
+  by_kind : r.number ≡ eqb c.kind 1
+  by_kind = ap (λ (x : Rule). x.number) q ∙ number-kind k ∙ ap (λ (n : ℕ). eqb n 1) e
+
+  pub content-other : r.number ≡ false → Ok None ≡ sight_of true (some c)
+  content-other t = ap Ok (sym (cond_no (eqb c.kind 1) (Some (measure_of c.value)) None (failed by_kind t)))
 
   module _ (t : r.number ≡ true) where
     pub measure-four : T (storable c) → {v : List ℕ} → v ≡ c.value → length v ≡ 4
     unfolding storable
     measure-four a {v} g =
-        let u : (w ≡ c.kind) × (w < 256) = (f.0 ∙ e, f.1) in
-        ap length g ∙ measure-length c.value a u q t
+        ap length g ∙ measure-length k c.value (subst (λ (n : ℕ). T (allowed n c.value)) (sym e) a) q t
 
-    pub content-measure : {v : List ℕ} → v ≡ c.value → {m : ℕ} → m ≡ measure_of v → Measure m ≡ sight_of true (some c)
+    pub content-measure : {v : List ℕ} → v ≡ c.value → {m : ℕ} → m ≡ measure_of v → Ok (Some m) ≡ sight_of true (some c)
     content-measure g h =
-        ap Measure (h ∙ ap measure_of g)
-        ∙ sym (cond_yes (eqb c.kind 1) (Measure (measure_of c.value)) Other (told-yes by_kind t))
+        ap Ok
+        (ap Some (h ∙ ap measure_of g)
+        ∙ sym (cond_yes (eqb c.kind 1) (Some (measure_of c.value)) None (told-yes by_kind t)))

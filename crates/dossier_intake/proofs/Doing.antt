@@ -1,6 +1,6 @@
 -- What the call has done, refused or not, from what its rows, the text and the partition say.
 use mathlib.Core.Path.{◌≡◌, refl, sym, ap, ap₂, subst, ◌∙◌}
-use mathlib.Core.Bool.{Bool, true, false, not, ◌&&◌}
+use mathlib.Core.Bool.{true, false, not, ◌&&◌}
 use mathlib.Core.Logic.{◌⊎◌, inl, inr}
 use mathlib.Core.List.Memᴰ
 use mathlib.Core.List.{List, [], ◌∷◌, ◌++◌}
@@ -17,7 +17,7 @@ use Rattle.model.specs.Store.{replace}
 use Rattle.model.specs.Model.{open_model, own_set}
 use Rattle.model.specs.Tree.{Forest, empty, element, entries}
 use Rattle.model.specs.Intake.{siblings, in_form, own_live, is_one, Sends, Sending, elements_of, with_all}
-use Rattle.model.specs.Rows.{row, row_code, some_raw, good_path, view_path, view_path_rows, sent_rows, tree_rows, take_rows}
+use Rattle.model.specs.Rows.{row, row_code, lent_rows, formed_rows, good_path, view_path, view_path_rows, sent_rows, tree_rows, take_rows}
 use Rattle.model.specs.Call.{insert_xml, op_rows, changes, effect}
 use Rattle.model.proofs.Bools.{both, yes-not-not, not-not}
 use Rattle.model.proofs.Paths.{step-ranges}
@@ -28,18 +28,21 @@ use Rattle.model.proofs.Searching.{sending-exists}
 use Rattle.model.proofs.Taking.{elements-count, own-siblings, Taken, rows_taken, taken-coming}
 use Rattle.path.proofs.Steps.{length-steps, good-path}
 use Rattle.store.specs.Opened.{Opened}
-use Rattle.table.proofs.Walking.{told-yes, failed, held}
+use Rattle.table.proofs.Walking.{told-yes, failed}
 use Rattle.table.proofs.Entering.{entry-refused, entry-did}
-use Rattle.table.specs.declared.Opening.{Opening}
-use Rattle.table.specs.declared.Opening.TheVariants.{Refused, Open}
-use Rattle.table.specs.Opening.{Opens}
+use Rattle.table.specs.Opening.{Lent}
+use Rattle.promise.specs.declared.Refusal.{Refusal}
 use Rattle.promise.specs.Did.{InsertedXml}
-use Rattle.promise.proofs.Doing.{acted-raw, acted-refused, acted-done}
+use Rattle.promise.specs.Refusals.{code}
+use Rattle.promise.proofs.Refusing.{code-some, err-stops}
+use Rattle.promise.proofs.Doing.{acted-unformed, acted-refused, acted-done}
 use Rattle.xml_read.specs.declared.Tree.{Tree}
-use Rattle.xml_read.specs.declared.TreeRead.{TreeRead}
-use Rattle.xml_read.specs.declared.TreeRead.TheVariants as tree
+use Rattle.std.specs.Prelude.{Some, None}
+use Rattle.xml_read.specs.declared.Mark.{Mark}
+use Rattle.xml_read.proofs.Marking.{length-marks}
+use lib.Seq.{take_all}
 use Rattle.xml_read.specs.Trees.{size, Sent, SentBy}
-use Rattle.xml_read.specs.Records.{marks, Noted}
+use Rattle.xml_read.specs.Records.{marks}
 use Rattle.intake.specs.Putting.{above, Comes, Took}
 use Rattle.dossier_intake.specs.Taking.{TreeRow, TopPath, Ready, ActedXml}
 
@@ -74,69 +77,71 @@ sends-passes {d} {t} {f} s = yes-not-not (is_one f && in_form d f) (both (is_one
 
 module _ (s : ℕ) (b p t : List ℕ) where
   -- some partition is not well formed
-  pub take-raw : T (some_raw s (open_model b)) → ActedXml s p t b 3 0 b
-  take-raw h = let f = sending-exists (length (steps_of p)) t in record { sent = f.0; reads = f.1; acted = acted-raw (insert_xml p f.0) s b [] h }
+  pub take-raw : (x : Refusal) → code x ≡ row_code (formed_rows s (open_model b)) → ActedXml s p t b (code x) 0 b
+  take-raw x h =
+      let f = sending-exists (length (steps_of p)) t in
+      record { sent = f.0; reads = f.1; acted = acted-unformed (insert_xml p f.0) s b [] h (code-some x) }
 
-  module _ (o : Opened b s) {v : Bool} (e : v ≡ view_path p) where
-    -- the path is none
-    pub take-stray : v ≡ false → ActedXml s p t b 4 0 b
+module _ {s : ℕ} {b : List ℕ} (o : Opened b s) (p t : List ℕ) where
+  -- the path is none
+  pub take-stray : (x : Refusal) → code x ≡ row_code (view_path_rows p) → ActedXml s p t b (code x) 0 b
+  unfolding op_rows
+  take-stray x h =
+      let f = sending-exists (length (steps_of p)) t in
+      record { sent = f.0; reads = f.1; acted = acted-refused (insert_xml p f.0) s b [] o.formed (err-stops (view_path_rows p) _ x h) (code-some x) }
+
+  module _ (e : 0 ≡ row_code (view_path_rows p)) (n : ℕ) (k : n ≡ length p / 3) where
+    path-passes : Passes (view_path_rows p)
+    path-passes = rows_pass (view_path_rows p) tt e refl
+
+    -- the text sends none
+    pub take-unread : SentBy n s t [] None → ActedXml s p t b 13 0 b
     unfolding op_rows
-    take-stray h =
-        let f = sending-exists (length (steps_of p)) t in
-        record { sent = f.0; reads = f.1; acted = acted-refused (insert_xml p f.0) s b [] o.formed (row-applies _ _ (failed e h)) (λ z. absurd (omega arith)) }
+    take-unread w =
+        record {
+          sent = empty;
+          reads = subst (λ (d : ℕ). SentBy d s t [] None) (k ∙ sym (length-steps p)) w;
+          acted =
+              acted-refused (insert_xml p empty) s b [] o.formed
+              (rows_behind (view_path_rows p) _ path-passes (row-applies _ _ tt)) (λ z. absurd (omega arith));
+        }
 
-    module _ (h : v ≡ true) (n : ℕ) (k : n ≡ length p / 3) (hs ps : List ℕ) (x : TreeRead) (read : SentBy n s t hs ps x) where
-      read_by : SentBy (length (steps_of p)) s t hs ps x
-      read_by = subst (λ (d : ℕ). SentBy d s t hs ps x) (k ∙ sym (length-steps p)) read
+    module _ {b' : List Mark} {y : Tree} (read : SentBy n s t b' (Some y)) where
+      tree-sent : Sent (length (steps_of p)) s t b' y
+      tree-sent = subst (λ (d : ℕ). SentBy d s t b' (Some y)) (k ∙ sym (length-steps p)) read
 
-      -- the text sends none
-      pub take-unread : x ≡ tree.None → ActedXml s p t b 13 0 b
+      -- an element that is another's, or removed
+      pub take-foreign : y.own ≡ false → ActedXml s p t b 14 0 b
       unfolding op_rows
-      take-unread w =
+      take-foreign w =
+          let f : Forest = tree-sent.trees in
           record {
-            sent = empty;
-            reads = subst (SentBy (length (steps_of p)) s t hs ps) w read_by;
+            sent = f;
+            reads = sends-sending f tree-sent.sends;
             acted =
-                acted-refused (insert_xml p empty) s b [] o.formed
-                (rows_behind (view_path_rows p) _ (held e h, tt) (row-applies _ _ tt)) (λ z. absurd (omega arith));
+                acted-refused (insert_xml p f) s b [] o.formed
+                (rows_behind (view_path_rows p ++ (row 13 _ ∷ [])) _ (path-passes.0, (sends-passes tree-sent.sends, tt)) (row-applies _ _ (failed tree-sent.own w)))
+                (λ z. absurd (omega arith));
           }
 
-      module _ {y : Tree} (tree_is : x ≡ tree.Is y) where
-        tree-sent : Sent (length (steps_of p)) s t hs ps y
-        tree-sent = subst (SentBy (length (steps_of p)) s t hs ps) tree_is read_by
-
-        -- an element that is another's, or removed
-        pub take-foreign : y.own ≡ false → ActedXml s p t b 14 0 b
-        unfolding op_rows
-        take-foreign w =
-            let f : Forest = tree-sent.trees in
-            record {
-              sent = f;
-              reads = sends-sending f tree-sent.sends;
-              acted =
-                  acted-refused (insert_xml p f) s b [] o.formed
-                  (rows_behind (view_path_rows p ++ (row 13 _ ∷ [])) _ (held e h, (sends-passes tree-sent.sends, tt)) (row-applies _ _ (failed tree-sent.own w)))
-                  (λ z. absurd (omega arith));
-            }
-
-        -- the tree may be looked for
-        pub take-ready : y.own ≡ true → Ready s p t b y.name y.count hs ps
-        take-ready w =
-            let f : Forest = tree-sent.trees in
-            let own : T (own_live s f) = told-yes tree-sent.own w in
-            let a : Step = record { name = y.name; label = y.label } in
-            let m : a ∈ siblings f = subst (λ (q : List Step). a ∈ q) (sym tree-sent.step) (Memᴰ.head refl) in
-            let l : y.label ≡ s = own-siblings s f own m in
-            record {
-              opened = o;
-              path = not-not (view_path p) (held e h);
-              sent = f;
-              sends = tree-sent.sends;
-              own = own;
-              step = tree-sent.step ∙ ap (λ (n : ℕ). record { name = y.name; label = n } ∷ []) l;
-              counts = tree-sent.counts;
-              noted = tree-sent.noted;
-            }
+      -- the tree may be looked for
+      pub take-ready : y.own ≡ true → Ready s p t b y.name y.count b'
+      take-ready w =
+          let f : Forest = tree-sent.trees in
+          let own : T (own_live s f) = told-yes tree-sent.own w in
+          let a : Step = record { name = y.name; label = y.label } in
+          let m : a ∈ siblings f = subst (λ (q : List Step). a ∈ q) (sym tree-sent.step) (Memᴰ.head refl) in
+          let l : y.label ≡ s = own-siblings s f own m in
+          record {
+            opened = o;
+            path = not-not (view_path p) path-passes.0;
+            sent = f;
+            sends = tree-sent.sends;
+            own = own;
+            step = tree-sent.step ∙ ap (λ (n : ℕ). record { name = y.name; label = n } ∷ []) l;
+            counts = tree-sent.counts;
+            noted = tree-sent.noted;
+          }
 
 -- ---- a tree that is looked for
 
@@ -148,7 +153,7 @@ top-form d (element x c i b) a t e =
     let q : x ≡ a = cc in
     (u.shallow, subst (λ (k : Step). T (valid_step k)) q u.step)
 
-module _ {s : ℕ} {p t b : List ℕ} {name n : ℕ} {hs ps : List ℕ} (r : Ready s p t b name n hs ps) where
+module _ {s : ℕ} {p t b : List ℕ} {name n : ℕ} {kept : List Mark} (r : Ready s p t b name n kept) where
   -- the step of its own element
   abbrev top : Step
   top = record { name = name; label = s }
@@ -160,6 +165,14 @@ module _ {s : ℕ} {p t b : List ℕ} {name n : ℕ} {hs ps : List ℕ} (r : Rea
       let e : length (steps_of p) ≡ length p / 3 = length-steps p in
       let w : length p % 3 ≡ 0 = view-whole p r.path in
       (w, omega (arith, f.0), (step-ranges top f.1).1)
+
+  -- the marks of so few elements are all kept
+  marks-kept : n ≤ 32 → take n kept ≡ marks (length (steps_of p)) 0 r.sent
+  marks-kept h =
+      let ms : List Mark = marks (length (steps_of p)) 0 r.sent in
+      let m : length ms ≡ size r.sent = length-marks (length (steps_of p)) 0 r.sent in
+      let all : take 32 ms ≡ ms = take_all 32 ms (omega (arith, r.counts)) in
+      ap (λ (k : ℕ). take k kept) (r.counts ∙ sym m) ∙ ap (λ (l : List Mark). take (length l) kept) (sym all) ∙ r.noted.are ∙ all
 
   -- rows 4, 13 and 14 have passed
   front-passes : Passes (view_path_rows p ++ sent_rows s (length (steps_of p)) r.sent)
@@ -177,13 +190,15 @@ module _ {s : ℕ} {p t b : List ℕ} {name n : ℕ} {hs ps : List ℕ} (r : Rea
         e top refl (ap (λ (j : ℕ). steps_of (take j buffer)) m ∙ w.whole) ∙ ap row_code rows_same
 
     -- a row refuses it
-    pub take-refused : (k ≡ 0 → ⊥) → ActedXml s p t b k 0 b
+    pub take-refused : (x : Refusal) → code x ≡ k → ActedXml s p t b (code x) 0 b
     unfolding op_rows
-    take-refused h =
+    take-refused x h =
         record {
           sent = r.sent;
           reads = sends-sending r.sent r.sends;
-          acted = acted-refused (insert_xml p r.sent) s b [] r.opened.formed (rows_behind (view_path_rows p ++ sent_rows s (length (steps_of p)) r.sent) _ front-passes row_is) h;
+          acted =
+              acted-refused (insert_xml p r.sent) s b [] r.opened.formed
+              (rows_behind (view_path_rows p ++ sent_rows s (length (steps_of p)) r.sent) _ front-passes (h ∙ row_is)) (code-some x);
         }
 
     module _ (z : k ≡ 0) where
@@ -196,8 +211,12 @@ module _ {s : ℕ} {p t b : List ℕ} {name n : ℕ} {hs ps : List ℕ} (r : Rea
       taken : Taken s (open_model b) p r.sent
       taken = rows_taken s (open_model b) p r.sent all_pass
 
+      -- they are so few that all marks are kept
+      pub few : n ≤ 32
+      few = let m : length (entries (steps_of p) r.sent) ≡ size r.sent = size-entries (steps_of p) r.sent in omega (arith, taken.free, r.counts)
+
       -- its elements may come to the partition x, which holds the set
-      pub take-comes : {x : List ℕ} → T (well_formed s x) → read_partition x ≡ own_set s (open_model b) → Comes x t buffer (length p / 3) s hs ps n
+      pub take-comes : {x : List ℕ} → T (well_formed s x) → read_partition x ≡ own_set s (open_model b) → Comes x t buffer (length p / 3) s (take n kept)
       take-comes {x} g q =
           let u : above (length p / 3) buffer ≡ steps_of p = w.above in
           let c : length (elements_of (steps_of p) r.sent) ≡ length (entries (steps_of p) r.sent) = elements-count s (steps_of p) r.sent r.own in
@@ -210,8 +229,7 @@ module _ {s : ℕ} {p t b : List ℕ} {name n : ℕ} {hs ps : List ℕ} (r : Rea
             own = r.own;
             coming = rw (u, q) (taken-coming (open-valid b) taken);
             room = rw (u, q) room;
-            noted = subst (λ (d : ℕ). Noted hs ps (marks d 0 r.sent)) (length-steps p) r.noted;
-            count = rw u (r.counts ∙ sym (size-entries (steps_of p) r.sent) ∙ sym c);
+            noted = marks-kept few ∙ ap (λ (d : ℕ). marks d 0 r.sent) (length-steps p);
           }
 
       -- they have come
@@ -234,13 +252,12 @@ module _ {s : ℕ} {p t b : List ℕ} {name n : ℕ} {hs ps : List ℕ} (r : Rea
 
 -- ---- a bare subject's call
 
-module _ (s : ℕ) (b : List ℕ) (r : Opening) (d : Opens r s b) {p t : List ℕ} where
-  -- rows 1 and 2 refuse it
-  pub take-shut : {k : ℕ} → r ≡ Refused k → InsertedXml s p t b k 0 b
-  take-shut {k} e =
-      let f = sending-exists (length (steps_of p)) t in
-      record { sent = f.0; reads = f.1; did = entry-refused s b r d e (insert_xml p f.0) [] }
+-- rows 1 and 2 refuse it
+pub take-shut : (s : ℕ) (b p t : List ℕ) (x : Refusal) → code x ≡ row_code (lent_rows s (open_model b)) → InsertedXml s p t b (code x) 0 b
+take-shut s b p t x e =
+    let f = sending-exists (length (steps_of p)) t in
+    record { sent = f.0; reads = f.1; did = entry-refused s b x e (insert_xml p f.0) [] }
 
-  -- it has done what is done for the label
-  pub take_open : {l : ℕ} → r ≡ Open l → {k n : ℕ} {b' : List ℕ} → ActedXml l p t b k n b' → InsertedXml s p t b k n b'
-  take_open e a = record { sent = a.sent; reads = a.reads; did = entry-did s b r d e (insert_xml p a.sent) a.acted }
+-- it has done what is done for the label
+pub take_open : {s l : ℕ} {b : List ℕ} → (l ≡ s) × Lent b s → {p t : List ℕ} {k n : ℕ} {b' : List ℕ} → ActedXml l p t b k n b' → InsertedXml s p t b k n b'
+take_open d {p} a = record { sent = a.sent; reads = a.reads; did = entry-did d (insert_xml p a.sent) a.acted }

@@ -5,7 +5,7 @@ use mathlib.Core.List.{List, [], ◌∷◌, ◌++◌}
 use Prim.Native.Nat.{ℕ, ◌+◌, ◌-◌, ◌*◌, ◌/◌, ◌%◌, ◌≤◌, ◌<◌}
 use native.Mathlib.Omega.{arith}
 use lib.ListN.{length, take, drop, length-append, length-drop}
-use lib.Seq.{take_all, take_at}
+use lib.Seq.{take_at}
 use lib.Dec.{T}
 use mir.Facts.{yes_ltb, no_ltb}
 use Rattle.model.specs.Path.{Step, steps_of, ends_in}
@@ -65,7 +65,7 @@ module _ {s : ℕ} {b : List ℕ} (o : Opened b s) (p q : List ℕ) (n : ℕ) {v
         rows_behind (row 7 _ ∷ []) _ (held e h, tt)
         (row-applies _ _ (or_l (live (open_model b) (steps_of p ++ (a ∷ []))) false (told-yes (found-is a l w) y)))
 
-    module _ (y : f ≡ false) {c : ℕ} (k : (c ≡ count x) × (c < 256)) where
+    module _ (y : f ≡ false) {c : ℕ} (k : c ≡ count x) where
       -- it is not there
       lacks : (a : Step) → a.label ≡ s → steps_of q ≡ steps_of p ++ (a ∷ []) → T (not (live (open_model b) (steps_of p ++ (a ∷ [])) || false))
       lacks a l w = subst (λ (t : Bool). T (not (t || false))) (sym y ∙ found-is a l w) tt

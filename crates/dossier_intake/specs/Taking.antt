@@ -10,6 +10,7 @@ use Rattle.store.specs.Opened.{Opened}
 use Rattle.promise.specs.Did.{Acted}
 use Rattle.xml_read.specs.Trees.{size}
 use Rattle.xml_read.specs.Records.{marks, Noted}
+use Rattle.xml_read.specs.declared.Mark.{Mark}
 
 -- a buffer for six steps holds the path p given as bytes, and the step a behind it
 pub record TopPath (p : List ℕ) (a : Step) (buffer : List ℕ) : Type 0 where
@@ -24,7 +25,7 @@ TreeRow s b p q n k =
     (a : Step) → a.label ≡ s → steps_of q ≡ steps_of p ++ (a ∷ []) → k ≡ row_code (tree_rows s (open_model b) (steps_of p) (a ∷ []) n)
 
 -- rows 1 to 4, 13 and 14 do not apply: the tree of n elements that the text sends, the name of its own, and what is kept of the elements
-pub record Ready (s : ℕ) (parent text store : List ℕ) (name n : ℕ) (heads places : List ℕ) : Type 0 where
+pub record Ready (s : ℕ) (parent text store : List ℕ) (name n : ℕ) (kept : List Mark) : Type 0 where
   pub opened : Opened store s
   pub path : T (view_path parent)
   pub sent : Forest
@@ -32,7 +33,7 @@ pub record Ready (s : ℕ) (parent text store : List ℕ) (name n : ℕ) (heads 
   pub own : T (own_live s sent)
   pub step : siblings sent ≡ record { name = name; label = s } ∷ []
   pub counts : n ≡ size sent
-  pub noted : Noted heads places (marks (length (steps_of parent)) 0 sent)
+  pub noted : Noted kept (marks (length (steps_of parent)) 0 sent)
 
 -- for a label on a store of the right size: the tree that the text sends, or none, and what was done with it
 pub record ActedXml (label : ℕ) (parent text store : List ℕ) (number count : ℕ) (store' : List ℕ) : Type 0 where

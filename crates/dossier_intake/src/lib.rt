@@ -4,58 +4,39 @@
 mod rows;
 
 ghost use Rattle.promise.specs.Did.{InsertedXml};
-ghost use Rattle.table.specs.Opening.{Lent};
+ghost use Rattle.promise.specs.Refusals.{number_of, count_of};
 ghost use Rattle.dossier_intake.specs.Taking.{Ready, ActedXml};
 
-use dossier::Answer;
-use table::Opening;
-use xml_read::TreeRead;
+use promise::Refusal;
+use store::Reader;
+use xml_read::Mark;
 
 // Takes in the style that the text sends, below the parent: how many elements came.
-pub fn insert_xml(store: &mut [u8], subject: u32, parent: &[u8], text: &[u8]) -> Answer
-    ensures { InsertedXml subject parent.now text.now store.old result.number result.count store.new }
+pub fn insert_xml(
+    store: &mut [u8],
+    subject: u32,
+    parent: &[u8],
+    text: &[u8],
+) -> Result<usize, Refusal>
+    ensures { InsertedXml subject parent.now text.now store.old (number_of result) (count_of result) store.new }
 {
-    match table::open(store, subject) {
-        Opening::Refused(number) => Answer { number, count: 0 },
-        Opening::Open(label) => act(store, label, parent, text),
-    }
-}
-
-// The same for a label, where rows 1 and 2 have passed: rows 3 and 4, the text, then the tree that it sends.
-fn act(store: &mut [u8], label: u8, parent: &[u8], text: &[u8]) -> Answer
-    requires { Lent store.old label }
-    ensures { ActedXml label parent.now text.now store.old result.number result.count store.new }
-{
-    if store::some_raw(store, label) {
-        return Answer {
-            number: 3,
-            count: 0,
-        };
-    }
-    if !table::is_view_path(parent) {
-        return Answer {
-            number: 4,
-            count: 0,
-        };
-    }
-    let mut heads = [0u64; 32];
-    let mut places = [0usize; 32];
-    let TreeRead::Is(tree) = xml_read::read(text, parent.len() / 3, label, &mut heads, &mut places)
-    else {
-        return Answer {
-            number: 13,
-            count: 0,
-        };
+    let label = table::open(store, subject)?;
+    table::check_formed(store, label)?;
+    table::check_view_path(parent)?;
+    let none = Mark {
+        steps: 0,
+        name: 0,
+        shown: None,
+        place: 0,
+    };
+    let mut marks = [none; 32];
+    let Some(tree) = xml_read::read(text, parent.len() / 3, label, &mut marks) else {
+        return Err(Refusal::Form);
     };
     if !tree.own {
-        return Answer {
-            number: 14,
-            count: 0,
-        };
+        return Err(Refusal::NotOwn);
     }
-    take(
-        store, label, parent, text, tree.name, tree.count, &heads, &places,
-    )
+    take(store, label, parent, text, tree.name, tree.count, &marks)
 }
 
 // The tree of a text that has been read through, and what was kept of its elements: rows 7 to 9, then they come.
@@ -66,20 +47,20 @@ fn take(
     text: &[u8],
     name: u64,
     count: usize,
-    heads: &[u64],
-    places: &[usize],
-) -> Answer
-    requires { Ready label parent.now text.now store.old name count heads.now places.now }
-    ensures { ActedXml label parent.now text.now store.old result.number result.count store.new }
+    marks: &[Mark; 32],
+) -> Result<usize, Refusal>
+    requires { Ready label parent.now text.now store.old name count marks.now }
+    ensures { ActedXml label parent.now text.now store.old (number_of result) (count_of result) store.new }
 {
     let mut path = [0u8; 18];
     rows::put_top(parent, name, label, &mut path);
     let n = parent.len() + 3;
-    let number = rows::tree_row(store, label, parent, &path[0..n], count);
-    if number != 0 {
-        return Answer { number, count: 0 };
-    }
-    let start = 1284 * octets::index(label);
+    let reader = Reader {
+        store,
+        subject: label,
+    };
+    rows::check_tree(&reader, parent, &path[0..n], count)?;
+    let start = 1284 * usize::from(label);
     let end = start + 1284;
     let above = parent.len() / 3;
     intake::put_all(
@@ -88,9 +69,7 @@ fn take(
         &mut path,
         above,
         label,
-        heads,
-        places,
-        count,
+        &marks[..count],
     );
-    Answer { number: 0, count }
+    Ok(count)
 }

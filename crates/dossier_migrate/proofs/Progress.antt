@@ -72,7 +72,7 @@ pub progress_start : {s : List ℕ} → length s ≡ store_size → Progress s s
 progress_start z = record { within = omega arith; size = z; before = λ m h. refl; from = λ m h l. absurd (omega arith); bits = refl }
 
 -- the part of partition n
-pub part-is : (s : List ℕ) (n j : ℕ) → length s ≡ store_size → n < 32 → (j ≡ n) × (j < 256)
+pub part-is : (s : List ℕ) (n j : ℕ) → length s ≡ store_size → n < 32 → j ≡ n
     → (take (1284 * j + 1284 - 1284 * j) (drop (1284 * j) s) ≡ partition n s) × (length (take (1284 * j + 1284 - 1284 * j) (drop (1284 * j) s)) ≡ partition_size)
 part-is s n j z h e = part-lent n n s z (dominates-refl n (lt-label n h)) e
 
@@ -85,7 +85,7 @@ module _ {s₀ s : List ℕ} {mask n : ℕ} (inv : Progress s₀ s mask n) (h : 
       (rw (length-map (range (λ m. m) n (32 - n)) (unformed s₀), length-range (λ (m : ℕ). m) n (32 - n)) (omega arith)))
 
   -- the partition before n is migrated
-  pub progress-next : {j : ℕ} → (j ≡ n - 1) × (j < 256) → {r : ℕ} {y : List ℕ} → let x : List ℕ = take (1284 * j + 1284 - 1284 * j) (drop (1284 * j) s) in
+  pub progress-next : {j : ℕ} → j ≡ n - 1 → {r : ℕ} {y : List ℕ} → let x : List ℕ = take (1284 * j + 1284 - 1284 * j) (drop (1284 * j) s) in
       (r ≡ bit_of (n - 1) x) × (y ≡ migrated (n - 1) x)
       → Progress s₀ (put_mid (1284 * j) (1284 * j + 1284 - 1284 * j) s y) (2 * mask + r) (n - 1)
   progress-next {j} e {r} {y} g =
@@ -96,7 +96,7 @@ module _ {s₀ s : List ℕ} {mask n : ℕ} (inv : Progress s₀ s mask n) (h : 
       let own : x ≡ partition k s₀ = part.0 ∙ inv.before k (omega arith) in
       let ys : y ≡ migrated k (partition k s₀) = g.1 ∙ ap (migrated k) own in
       let fit : length y ≡ partition_size = ap length g.1 ∙ length-migrated k x part.1 in
-      let store : put_mid (1284 * j) (1284 * j + 1284 - 1284 * j) s y ≡ replace k y s = part-replaced k s j inv.size (lt-label k l) e.0 y in
+      let store : put_mid (1284 * j) (1284 * j + 1284 - 1284 * j) s y ≡ replace k y s = part-replaced k s j inv.size (lt-label k l) e y in
       let here : partition k (replace k y s) ≡ migrated k (partition k s₀) = partition-own k y s (yes-has k s inv.size (lt-label k l)) fit ∙ ys in
       let more : 32 - k ≡ suc (32 - n) = omega (arith, inv.within) in
       let up : suc k ≡ n = omega arith in

@@ -6,13 +6,9 @@ ghost use Rattle.model.specs.Partition.{partition_size};
 ghost use Rattle.model.specs.Store.{store_size};
 ghost use Rattle.model.specs.Migration.{former_well_formed, migrated, migrated_store, migration};
 ghost use Rattle.promise.specs.Migrated.{Migrated};
+ghost use Rattle.promise.specs.Refusals.{number_of, count_of};
 
-// What the migration answers: 0 or the number of its refusal, and the mask.
-#[derive(Drop)]
-pub struct Migration {
-    pub number: u32,
-    pub mask: u32,
-}
+use promise::Refusal;
 
 // Migrates the partition of label n: one that is well formed in the order of before is sorted. The result is its bit, 1 where it is not.
 fn migrate_partition(part: &mut [u8], n: u8) -> u32
@@ -20,7 +16,7 @@ fn migrate_partition(part: &mut [u8], n: u8) -> u32
     ensures value { result ≡ cond (not (former_well_formed n part.old)) 1 0 }
     ensures part_after { part.new ≡ migrated n part.old }
 {
-    if !partition::is_well_formed_former(part, n) {
+    if !(partition::Partition { bytes: part }).is_well_formed_former(n) {
         return 1;
     }
     sorting::sort(part);
@@ -34,24 +30,21 @@ fn migrate_all(store: &mut [u8]) -> u32
     ensures store_after { store.new ≡ migrated_store store.old }
 {
     let mut mask: u32 = 0;
-    let mut n: u8 = 32;
-    while 0 < n {
-        n -= 1;
-        let start = 1284 * octets::index(n);
+    for n in (0..32u8).rev() {
+        let start = 1284 * usize::from(n);
         let end = start + 1284;
-        let bit = migrate_partition(&mut store[start..end], n);
-        mask = 2 * mask + bit;
+        mask = 2 * mask + migrate_partition(&mut store[start..end], n);
     }
     mask
 }
 
-// Gives each partition that is well formed in the order of before the same elements in path order; each other keeps its bytes.
-pub fn migrate(store: &mut [u8]) -> Migration
-    ensures { Migrated store.old (record { number = result.number; mask = result.mask }) store.new }
+// Gives each partition that is well formed in the order of before the same elements in path order; each other keeps its bytes. What is told
+// is the mask of the others.
+pub fn migrate(store: &mut [u8]) -> Result<u32, Refusal>
+    ensures { Migrated store.old (record { number = number_of result; mask = count_of result }) store.new }
 {
     if store.len() != 41088 {
-        return Migration { number: 1, mask: 0 };
+        return Err(Refusal::StoreLength);
     }
-    let mask = migrate_all(store);
-    Migration { number: 0, mask }
+    Ok(migrate_all(store))
 }

@@ -1,23 +1,14 @@
--- Where the last slash of a name stands, looked for from the end; and a word's first byte.
+-- Where the last slash of a name stands.
 use mathlib.Core.Path.{◌≡◌, refl, ◌∙◌, sym, ap}
 use mathlib.Core.Bool.{Bool, true, false, not, cond, ◌&&◌, ◌||◌}
 use mathlib.Core.List.{List, [], ◌∷◌}
-use Prim.Native.Nat.{ℕ, zero, suc, ◌-◌, ◌<◌, ◌≤◌}
+use Prim.Native.Nat.{ℕ, zero, suc, ◌+◌, ◌<◌, ◌≤◌}
 use native.Mathlib.Omega.{arith}
 use borrow.Author.Tests.{eq-eqb, ne_eqb}
 use lib.Dec.{eqb}
+use Rattle.std.specs.Prelude.{Option, Some, None, IfSome, IfNone}
 use lib.ListN.{length, drop, get_or}
-use lib.Seq.{drop-cons}
-use Rattle.file_names.specs.Names.{is_dashed, has_slash, last_slash}
-
--- a word without bytes begins with no dash, and any other with its first byte
-pub dashed-none : (w : List ℕ) → length w ≡ 0 → false ≡ is_dashed w
-dashed-none [] e = refl
-dashed-none (x ∷ xs) e = absurd (omega arith)
-
-pub dashed-first : (w : List ℕ) → (length w ≡ 0 → ⊥) → eqb (get_or w 0 0) 45 ≡ is_dashed w
-dashed-first [] n = absurd (n refl)
-dashed-first (x ∷ xs) n = refl
+use Rattle.file_names.specs.Names.{has_slash, last_slash}
 
 or_left : (a b : Bool) → (a || b) ≡ false → a ≡ false
 or_left true b e = e
@@ -57,23 +48,29 @@ last_none (x ∷ xs) n =
     ap suc (last_none xs (or_right (eqb x 47) (has_slash xs) n))
     ∙ sym (ap (λ (b : Bool). cond (b && not (has_slash xs)) 0 (suc (last_slash xs))) (or_left (eqb x 47) (has_slash xs) n))
 
--- looking from the end: nothing is behind the end, and what is behind a place grows by a byte that is no slash, or the slash is found
-pub none-behind : (s : List ℕ) → has_slash (drop (length s) s) ≡ false
-none-behind [] = refl
-none-behind (x ∷ xs) = none-behind xs
+-- a text no byte of which, from a place on, is a slash
+none_from : (s : List ℕ) → ((k : ℕ) → k < length s → get_or s k 0 ≡ 47 → ⊥) → has_slash s ≡ false
+none_from [] f = refl
+none_from (x ∷ xs) f = ap (λ (b : Bool). b || has_slash xs) (ne_eqb x 47 (f 0 (omega arith))) ∙ none_from xs (λ k h. f (suc k) (omega arith))
 
-behind : (s : List ℕ) (i : ℕ) → 0 < i → has_slash (drop i s) ≡ false → has_slash (drop (suc (i - 1)) s) ≡ false
-behind s i p n = let e : suc (i - 1) ≡ i = omega arith in ap (λ (k : ℕ). has_slash (drop k s)) e ∙ n
+none-behind : (s : List ℕ) (i : ℕ) → ((k : ℕ) → i ≤ k → k < length s → get_or s k 0 ≡ 47 → ⊥) → has_slash (drop i s) ≡ false
+none-behind s zero f = none_from s (λ k h. f k (omega arith) h)
+none-behind [] (suc i) f = refl
+none-behind (x ∷ xs) (suc i) f = none-behind xs i (λ k g h. f (suc k) (omega arith) (omega arith))
 
-pub none_yet : (s : List ℕ) (i : ℕ) → 0 < i → i ≤ length s → has_slash (drop i s) ≡ false → (get_or s (i - 1) 0 ≡ 47 → ⊥) → has_slash (drop (i - 1) s) ≡ false
-none_yet s i p h n e =
-    ap has_slash (drop-cons s (i - 1) 0 (omega arith))
-    ∙ ap (λ (b : Bool). b || has_slash (drop (suc (i - 1)) s)) (ne_eqb (get_or s (i - 1) 0) 47 e)
-    ∙ behind s i p n
+-- a slash behind which no byte is one, and a text without any
+pub last_found : (s : List ℕ) (i : ℕ) → i < length s → get_or s i 0 ≡ 47 → ((k : ℕ) → i + 1 ≤ k → k < length s → get_or s k 0 ≡ 47 → ⊥) → i ≡ last_slash s
+last_found s i h e f = last-at s i h e (none-behind s (suc i) (λ k g l. f k (omega arith) l))
 
-pub found : (s : List ℕ) (i : ℕ) → 0 < i → i ≤ length s → has_slash (drop i s) ≡ false → get_or s (i - 1) 0 ≡ 47 → i - 1 ≡ last_slash s
-found s i p h n e = last-at s (i - 1) (omega arith) e (behind s i p n)
+pub none_found : (s : List ℕ) → ((k : ℕ) → k < length s → get_or s k 0 ≡ 47 → ⊥) → last_slash s ≡ length s
+none_found s f = sym (last_none s (none_from s f))
 
--- where nothing is left to look at there is none
-pub none_left : (s : List ℕ) (i : ℕ) → i ≤ 0 → has_slash (drop i s) ≡ false → length s ≡ last_slash s
-none_left s i z n = let e : i ≡ 0 = omega arith in last_none s (sym (ap (λ (k : ℕ). has_slash (drop k s)) e) ∙ n)
+-- ---- what holds of an option, by its cases
+
+pub some_case : {P : ℕ → Type 0} (o : Option ℕ) → ((i : ℕ) → o ≡ Some i → P i) → IfSome o P
+some_case None f = tt
+some_case (Some i) f = f i refl
+
+pub none_case : {P : Type 0} (o : Option ℕ) → (o ≡ None → P) → IfNone o P
+none_case None f = f refl
+none_case (Some i) f = tt

@@ -1,3 +1,2 @@
 -- Definitions that this crate's contracts cite.
 pub mod Names
-pub mod Tells

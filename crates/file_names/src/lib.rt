@@ -4,28 +4,21 @@
 
 pub mod about;
 
-ghost use Rattle.std.specs.Prelude.{◌≡◌, ◌+◌, ◌≤◌, ◌<◌, length, take, slice_index};
+ghost use Rattle.std.specs.Prelude.{◌≡◌, ◌↔◌, ◌+◌, ◌≤◌, length, take, Some, IsTrue, IfSome, IfNone, slice_get};
 ghost use Rattle.file_names.specs.Names.{new_name, last_slash, for_c, is_dashed, AsksHelp, Ended};
-ghost use Rattle.file_names.specs.Tells.{Tells};
 
 // Whether a word asks for help: it is -h or --help.
 pub fn asks_help(word: &[u8]) -> bool
-    ensures { Tells result (AsksHelp word.now) }
+    ensures { IsTrue result ↔ AsksHelp word.now }
 {
-    if word == b"-h".as_slice() {
-        return true;
-    }
-    word == b"--help".as_slice()
+    word == b"-h".as_slice() || word == b"--help".as_slice()
 }
 
 // Whether a word begins with a dash, as options do.
 pub fn is_dashed(word: &[u8]) -> bool
     ensures { result ≡ is_dashed word.now }
 {
-    if word.len() == 0 {
-        return false;
-    }
-    word[0] == b'-'
+    word.first() == Some(&b'-')
 }
 
 // Puts the name of a new file beside the store's, with six letters X that are replaced when it is made. Yields its length.
@@ -40,19 +33,12 @@ pub fn put_new(name: &[u8], space: &mut [u8]) -> usize
     end
 }
 
-// Where the last slash of a name stands, or its length where it has none.
-pub fn last_slash(name: &[u8]) -> usize
-    ensures place { (result ≡ last_slash name.now) × (result ≤ length name.now) }
-    ensures slash { result < length name.now → slice_index name.now result ≡ 47 }
+// Where the last slash of a name stands, if it has one.
+pub fn last_slash(name: &[u8]) -> Option<usize>
+    ensures slash { IfSome result (λ i. (i ≡ last_slash name.now) × (slice_get name.now i ≡ Some 47)) }
+    ensures none { IfNone result (last_slash name.now ≡ length name.now) }
 {
-    let mut i = name.len();
-    while 0 < i {
-        i -= 1;
-        if name[i] == b'/' {
-            return i;
-        }
-    }
-    name.len()
+    name.iter().rposition(|byte| *byte == b'/')
 }
 
 // The name as C takes it, with zeros behind it.

@@ -3,7 +3,7 @@ use mathlib.Core.Path.{◌≡◌, refl, sym, ap, subst, ◌∙◌}
 use mathlib.Core.List.{List, []}
 use Prim.Native.Nat.{ℕ, suc, ◌+◌, ◌-◌, ◌*◌, ◌/◌, ◌≤◌, ◌<◌}
 use native.Mathlib.Omega.{arith}
-use lib.ListN.{length, take, drop}
+use lib.ListN.{length, take}
 use lib.Seq.{length-take-le, take_all}
 use lib.Dec.{T}
 use Rattle.model.specs.Sets.{put}
@@ -35,9 +35,9 @@ abbrev pub group_content : Content
 group_content = record { kind = 0; value = [] }
 
 -- the first k + 1 steps of a lent path
-pub first-steps : (path : List ℕ) (k : ℕ) → steps_of (take (3 * k + 3 - 0) (drop 0 path)) ≡ take (suc k) (steps_of path)
+pub first-steps : (path : List ℕ) (k : ℕ) → steps_of (take (3 * k + 3) path) ≡ take (suc k) (steps_of path)
 first-steps path k =
-    let n : 3 * k + 3 - 0 ≡ 3 * suc k = omega arith in
+    let n : 3 * k + 3 ≡ 3 * suc k = omega arith in
     steps_first (suc k) path n
 
 module _ {x : List ℕ} {p : List Step} {slot k : ℕ} {c : Content} (v : Vacant x p slot k c) where
@@ -148,10 +148,10 @@ module _ (path : List ℕ) {goal : List Element} {x : List ℕ} {slot k : ℕ} {
   going-slot = omega (arith, g.vacant.place, place-within (steps_of path) (read_partition x), g.vacant.room, g.vacant.lacking.short)
 
   -- a group comes at the first k + 1 steps
-  pub going-room : Room x slot (steps_of (take (3 * k + 3 - 0) (drop 0 path)))
+  pub going-room : Room x slot (steps_of (take (3 * k + 3) path))
   going-room = rw (first-steps path k) (first-room g.vacant)
 
-  pub going_next : k < length path / 3 - 1 → {x' : List ℕ} → x' ≡ layout (added (steps_of (take (3 * k + 3 - 0) (drop 0 path))) group_content (read_partition x))
+  pub going_next : k < length path / 3 - 1 → {x' : List ℕ} → x' ≡ layout (added (steps_of (take (3 * k + 3) path)) group_content (read_partition x))
       → Going goal x' (steps_of path) (slot + 1) (k + 1) c
   going_next h e =
       let more : suc k < length (steps_of path) = omega (arith, length-steps path) in

@@ -2,11 +2,10 @@
 use mathlib.Core.Path.{◌≡◌, refl, sym, ap, ap₂, subst, ◌∙◌}
 use mathlib.Core.Option.{some}
 use mathlib.Core.List.{List, [], ◌∷◌, ◌++◌}
-use Prim.Native.Nat.{ℕ, suc, ◌+◌, ◌-◌, ◌≤◌}
+use Prim.Native.Nat.{ℕ, suc, ◌≤◌}
 use native.Mathlib.Omega.{arith}
 use lib.ListN.{length, take, drop}
 use lib.Dec.{T}
-use Rattle.model.specs.Lists.{between}
 use Rattle.model.specs.Sets.{put}
 use Rattle.model.specs.Path.{Step, is_prefix, key, steps_of}
 use Rattle.model.specs.Value.{Content}
@@ -20,12 +19,16 @@ use Rattle.model.proofs.Sets.{fresh, put-valid}
 use Rattle.partition.specs.Place.{Formed}
 use Rattle.partition.proofs.Layouts.{length-elements}
 use Rattle.scan_value.specs.Values.{Valued, ValueAt}
-use Rattle.scan_value.specs.declared.ValueRead.{ValueRead}
-use Rattle.scan_value.specs.declared.ValueRead.TheVariants as value
-use Rattle.intake.specs.declared.Head.{Head}
+use Rattle.std.specs.Prelude.{Some, None}
+use Rattle.std.proofs.lemmas.List.{length-take}
+use Rattle.std.proofs.lemmas.Option.{none-some}
+use Rattle.kind.specs.Code.{code}
+use Rattle.kind.specs.declared.Kind.{Kind}
+use Rattle.scan.specs.Shown.{content_in, kind_at}
+use Rattle.scan.proofs.Showing.{shown-code}
+use Rattle.xml_read.specs.declared.Mark.{Mark}
 use Rattle.intake.specs.Putting.{above}
-use Rattle.intake.specs.Progress.{step_of, Below, Stepped, Item, path_of, element_of, Fit, Ready, Going, Tells}
-use Rattle.xml_read.proofs.Heads.{live_in}
+use Rattle.intake.specs.Progress.{step_of, Below, Stepped, Item, path_of, element_of, mark_of, Fit, Ready, Going}
 use Rattle.intake.proofs.Reading.{value_read}
 use Rattle.intake.proofs.Stepping.{above-front, front_above}
 
@@ -68,52 +71,61 @@ module _ {goal : List Element} {s : ℕ} {x l path : List ℕ} {i : Item} {is : 
         reaches = rw back g.reaches;
       }
 
-  module _ {h : Head} {place : ℕ} (t : Tells h place i) where
+  module _ {m : Mark} (t : m ≡ mark_of i) where
     -- its value is within the text
-    pub next-asked : (place ≤ length l) × (h.kind ≤ 3)
-    next-asked = (omega (arith, t.value, fit.within), omega (arith, t.kind, (live_in i.content fit.value.shows).0))
+    pub next-asked : m.place ≤ length l
+    next-asked = rw t fit.within
+
+    -- it shows a kind
+    pub next-shows : m.shown ≡ None → ⊥
+    next-shows e = none-some (kind_at i.content.kind) (sym e ∙ ap (λ (m : Mark). m.shown) t)
+
+    -- its step
+    step-is : step_of s m ≡ i.step
+    step-is = ap₂ (λ (n k : ℕ). record { name = n; label = k }) (ap (λ (m : Mark). m.name) t) (sym fit.own)
 
     -- its path
-    path-is : above h.steps path ++ (step_of h ∷ []) ≡ path_of i
-    path-is = ap₂ (λ (p : List Step) (a : Step). p ++ (a ∷ [])) (ap (λ (n : ℕ). above n path) t.steps ∙ over-is) t.step
+    path-is : above m.steps path ++ (step_of s m ∷ []) ≡ path_of i
+    path-is = ap₂ (λ (p : List Step) (a : Step). p ++ (a ∷ [])) (ap (λ (m : Mark). above m.steps path) t ∙ over-is) step-is
 
     -- it may be put in
-    pub next-below : Below x path h.steps (step_of h)
+    pub next-below : Below x path m.steps (step_of s m)
     next-below =
         let formed : Formed x = record { label = s; is = g.formed } in
         record {
           size = g.size;
-          shallow = omega (arith, t.steps, fit.shallow);
-          step = rw t.step fit.step;
+          shallow = rw t fit.shallow;
+          step = rw step-is fit.step;
           room =
               rw path-is (record { formed = formed; free = omega (arith, g.room, length-elements formed); place = refl; lacks = g.coming.0.lacks });
         }
 
     -- its value stands there
-    valued : Valued (drop place l) (some i.content) fit.rest
-    valued = rw t.value fit.value
+    valued : Valued (drop m.place l) (some i.content) fit.rest
+    valued = rw t fit.value
 
-    module _ (b : List ℕ) {w : ValueRead} (found : ValueAt l place h.kind b w) where
-      -- its value is read
-      pub next-value : w ≡ value.None → ⊥
-      next-value e = subst (ValueAt l place h.kind b) e found (some i.content) fit.rest (sym t.kind) valued
+    module _ {q : Kind} (shown : m.shown ≡ Some q) where
+      -- its kind
+      kind-is : i.content.kind ≡ code q
+      kind-is = shown-code i.content q fit.value.shows (sym (ap (λ (m : Mark). m.shown) t) ∙ shown)
 
-      module _ {k next : ℕ} (value-is : w ≡ value.Is k next) where
-        -- it is there
-        value-at-is : ValueAt l place h.kind b (value.Is k next)
-        value-at-is = subst (ValueAt l place h.kind b) value-is found
+      module _ (b : List ℕ) where
+        -- its value is read
+        pub next-value : ValueAt l m.place m.shown b None → ⊥
+        next-value none-read = none-read (some i.content) fit.rest (sym (ap (λ (m : Mark). m.shown) t)) valued
 
-        -- it is within the buffer
-        pub next-size : k ≤ 16
-        next-size = value-at-is.2
+        module _ {k next : ℕ} (found : ValueAt l m.place m.shown b (Some (k, next))) where
+          -- it has 16 bytes at most
+          pub next-size : length (take k b) ≤ 16
+          next-size = omega (arith, found.2, length-take k b)
 
-        -- the others are left, when the element was put in
-        pub next-on : {x' path' : List ℕ} → Stepped path h.steps (step_of h) path'
-            → x' ≡ layout (added (above h.steps path ++ (step_of h ∷ [])) (record { kind = h.kind; value = between 0 k b }) (read_partition x))
-            → Going goal s x' l path' is
-        unfolding added
-        next-on {x'} {path'} z e =
-            let same : k - 0 ≡ k = omega arith in
-            let content : i.content ≡ record { kind = h.kind; value = take k b } = value_read valued (sym t.kind) value-at-is.3 in
-            next-going (z.size ∙ g.size) (ap (λ (n : ℕ). above (suc n) path') (sym t.steps) ∙ z.steps ∙ path-is)
-            (rw same at e ∙ ap₂ (λ (p : List Step) (c : Content). layout (put rank (record { path = p; content = c }) (read_partition x))) path-is (sym content))
+          -- the others are left, when the element was put in
+          pub next-on : {x' path' : List ℕ} → Stepped path m.steps (step_of s m) path'
+              → x' ≡ layout (added (above m.steps path ++ (step_of s m ∷ [])) (record { kind = code q; value = take k b }) (read_partition x))
+              → Going goal s x' l path' is
+          unfolding added
+          next-on {x'} {path'} z e =
+              let read : Valued (drop m.place l) (content_in (Some q) (take k b)) (drop next l) = rw shown at found.3 in
+              let content : i.content ≡ record { kind = code q; value = take k b } = value_read valued q kind-is read in
+              next-going (z.size ∙ g.size) (ap (λ (m : Mark). above (suc m.steps) path') (sym t) ∙ z.steps ∙ path-is)
+              (e ∙ ap₂ (λ (p : List Step) (c : Content). layout (put rank (record { path = p; content = c }) (read_partition x))) path-is (sym content))

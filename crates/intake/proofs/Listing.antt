@@ -16,7 +16,10 @@ use Rattle.model.proofs.Paths.{prefix_refl}
 use Rattle.model.proofs.Trees.{longer, prefix-front}
 use Rattle.model.proofs.Sending.{form-parts, xml-element, ends-opens, end-tag-ends, xml-opens}
 use Rattle.model.proofs.Taking.{elements-none, elements-parts, own-parts}
-use Rattle.xml_read.specs.Records.{Mark, marks}
+use Rattle.xml_read.specs.Records.{marks}
+use Rattle.scan.specs.Shown.{kind_at}
+use Rattle.std.specs.Prelude.{Some}
+use Rattle.xml_read.specs.declared.Mark.{Mark}
 use Rattle.intake.specs.Progress.{Item, element_of, mark_of, Ready}
 use Rattle.xml_read.proofs.Heads.{opens-begins}
 
@@ -56,7 +59,7 @@ module _ (s : ℕ) where
       let first : ℕ = value + length (content_xml (some c)) in
       let next : ℕ = first + length (xml i) + length (end_tag a.name) in
       let own = own-parts s a c i b t in
-      ap₂ (λ (k : ℕ) (xs : List Mark). record { steps = k; name = a.name; shown = c.kind; place = value } ∷ xs) e
+      ap₂ (λ (k : ℕ) (xs : List Mark). record { steps = k; name = a.name; shown = Some (kind_at c.kind); place = value } ∷ xs) e
       (map-append mark_of (items_of p first i) (items_of r next b)
       ∙ ap₂ (λ (xs ys : List Mark). xs ++ ys) (items-marks p (suc d) first i (longer r a ∙ ap suc e) own.1) (items-marks r d next b e own.2))
 

@@ -1,10 +1,11 @@
 -- All elements of a text: before the first is put in, one after another, and behind the last.
-use mathlib.Core.Path.{◌≡◌, refl, sym, ap, ap₂, subst, ◌∙◌}
-use mathlib.Core.List.{List, [], ◌∷◌, map, map-map, append-nil}
-use Prim.Native.Nat.{ℕ, suc, ◌+◌, ◌/◌, ◌%◌, ◌≤◌, ◌<◌}
+use mathlib.Core.Path.{◌≡◌, sym, ap, subst, ◌∙◌}
+use mathlib.Core.List.{List, [], ◌∷◌, map, append-nil}
+use native.Mathlib.Numerals.{add-one}
+use Prim.Native.Nat.{ℕ, ◌+◌, ◌≤◌, ◌<◌}
 use native.Mathlib.Omega.{arith}
-use lib.ListN.{length, take, drop, get_or, length-map}
-use lib.Seq.{take_all}
+use lib.ListN.{length, drop, get_or, length-map, drop_of_length-le}
+use lib.Seq.{drop-cons}
 use lib.Dec.{T}
 use Rattle.model.specs.Path.{key, steps_of}
 use Rattle.model.specs.Element.{Element}
@@ -14,12 +15,10 @@ use Rattle.model.specs.Xml.{xml}
 use Rattle.model.specs.Intake.{is_one, in_form, Sends, elements_of, with_all}
 use Rattle.model.proofs.Partitions.{well-formed, layout-read}
 use Rattle.model.proofs.Sending.{form-parts, xml-injective}
-use Rattle.scan.proofs.Goings.{no-empty, drop_here, drop-within}
-use Rattle.xml_read.specs.Records.{Mark, marks, packed}
-use Rattle.intake.specs.declared.Head.{Head}
+use Rattle.scan.proofs.Goings.{no-empty}
+use Rattle.xml_read.specs.declared.Mark.{Mark}
 use Rattle.intake.specs.Putting.{above, Comes}
-use Rattle.intake.specs.Progress.{Item, element_of, mark_of, Fit, Ready, Going, Left, Tells}
-use Rattle.xml_read.proofs.Heads.{live_in}
+use Rattle.intake.specs.Progress.{Item, element_of, mark_of, Ready, Going, Left, Way, Went}
 use Rattle.intake.proofs.Stepping.{length_above, above-front}
 use Rattle.intake.proofs.Listing.{items_of, items-elements, items-marks, items-ready}
 
@@ -30,7 +29,7 @@ one-shallow : (d : ℕ) (f : Forest) → T (is_one f) → T (in_form d f) → d 
 one-shallow d empty t u = absurd t
 one-shallow d (element a c i b) t u = (form-parts d a c i b u).shallow
 
-module _ {x l path : List ℕ} {d label : ℕ} {heads places : List ℕ} {n : ℕ} (c : Comes x l path d label heads places n) where
+module _ {x l path : List ℕ} {d label : ℕ} {ms : List Mark} (c : Comes x l path d label ms) where
   -- the elements of the tree that was told to come
   abbrev items : List Item
   items = items_of (above d path) 0 c.sent
@@ -47,13 +46,6 @@ module _ {x l path : List ℕ} {d label : ℕ} {heads places : List ℕ} {n : �
   many : length items ≡ length (elements_of (above d path) c.sent)
   many = sym (length-map items element_of) ∙ ap length bring
 
-  -- their marks are all kept
-  kept : take 32 (marks d 0 c.sent) ≡ map mark_of items
-  kept =
-      let e : map mark_of items ≡ marks d 0 c.sent = items-marks label (above d path) d 0 c.sent deep c.own in
-      let k : length (map mark_of items) ≡ length items = length-map items mark_of in
-      ap (take 32) (sym e) ∙ take_all 32 (map mark_of items) (omega (arith, many, c.room))
-
   -- they are in form and stand in the text
   in-form : Ready label l (steps_of path) items
   in-form =
@@ -62,9 +54,8 @@ module _ {x l path : List ℕ} {d label : ℕ} {heads places : List ℕ} {n : �
       (c.reads.same ∙ sym (append-nil (xml c.sent))) (λ q t. tt))
 
   -- all are left
-  sent-start : Left (with_all (elements_of (above d path) c.sent) (read_partition x)) label x l path heads places 0 n
+  sent-start : Left (with_all (elements_of (above d path) c.sent) (read_partition x)) label x l path ms
   sent-start =
-      let k : length (map mark_of items) ≡ length items = length-map items mark_of in
       record {
         items = items;
         going =
@@ -76,91 +67,61 @@ module _ {x l path : List ℕ} {d label : ℕ} {heads places : List ℕ} {n : �
               room = omega (arith, many, c.room);
               reaches = ap (λ (es : List Element). with_all es (read_partition x)) bring;
             };
-        heads-are =
-            ap (λ (m : ℕ). take m heads) (sym k ∙ ap length (sym kept)) ∙ c.noted.heads-are ∙ ap (map packed) kept ∙ map-map packed mark_of items;
-        places-are =
-            ap (λ (m : ℕ). take m places) (sym k ∙ ap length (sym kept)) ∙ c.noted.places-are ∙ ap (map (λ (m : Mark). m.place)) kept
-            ∙ map-map (λ (m : Mark). m.place) mark_of items;
-        count = omega (arith, many, c.count);
+        marks-are = c.noted ∙ sym (items-marks label (above d path) d 0 c.sent deep c.own);
       }
 
   -- it is each tree that the text sends
-  pub left-start : (f : Forest) → Sends d l f → Left (with_all (elements_of (above d path) f) (read_partition x)) label x l path heads places 0 n
+  pub left-start : (f : Forest) → Sends d l f → Left (with_all (elements_of (above d path) f) (read_partition x)) label x l path ms
   left-start f s =
-      subst (λ (g : Forest). Left (with_all (elements_of (above d path) g) (read_partition x)) label x l path heads places 0 n)
+      subst (λ (g : Forest). Left (with_all (elements_of (above d path) g) (read_partition x)) label x l path ms)
       (xml-injective d c.sent f c.reads.ranges s.ranges (sym c.reads.same ∙ s.same)) sent-start
 
   -- the partition keeps its length
-  pub left-size : {goal : List Element} {x' path' : List ℕ} {k : ℕ} → Left goal label x' l path' heads places k n → length x' ≡ length x
+  pub left-size : {goal : List Element} {x' path' : List ℕ} {ns : List Mark} → Left goal label x' l path' ns → length x' ≡ length x
   left-size {x' = x'} z = (well-formed key label x' z.going.formed).size ∙ sym (well-formed key label x c.formed).size
 
 -- ---- one after another
 
--- what is next in a buffer
-buffer-next : (l : List ℕ) (k m v : ℕ) (vs : List ℕ) → take (suc m) (drop k l) ≡ v ∷ vs → (k < length l) × (get_or l k 0 ≡ v) × (take m (drop (k + 1) l) ≡ vs)
-buffer-next l k m v vs e = go (drop k l) refl e
-  where
-    go : (r : List ℕ) → drop k l ≡ r → take (suc m) r ≡ v ∷ vs → (k < length l) × (get_or l k 0 ≡ v) × (take m (drop (k + 1) l) ≡ vs)
-    go [] d e = absurd (no-empty e)
-    go (y ∷ r) d e =
-        let w = drop-within l k y r d in
-        let here : get_or l k 0 ∷ drop (k + 1) l ≡ y ∷ r = sym (drop_here l k w.0) ∙ d in
-        let value : y ≡ v = cc in
-        let rest : take m r ≡ vs = cc in
-        let first : get_or l k 0 ≡ y = cc in
-        (w.0, first ∙ value, ap (take m) w.1 ∙ rest)
-
 -- the element whose mark is next, and the others
-pub record First (goal : List Element) (s : ℕ) (x l path heads places : List ℕ) (k n : ℕ) : Type 0 where
+pub record First (goal : List Element) (s : ℕ) (x l path : List ℕ) (m : Mark) (ms : List Mark) : Type 0 where
   pub item : Item
   pub others : List Item
   pub going : Going goal s x l path (item ∷ others)
-  pub head : (k < length heads) × (get_or heads k 0 ≡ packed (mark_of item)) × (take (length others) (drop (k + 1) heads) ≡ map (λ i. packed (mark_of i)) others)
-  pub place : (k < length places) × (get_or places k 0 ≡ item.place) × (take (length others) (drop (k + 1) places) ≡ map (λ i. i.place) others)
-  pub count : k + 1 + length others ≡ n
+  pub tells : m ≡ mark_of item
+  pub rest : ms ≡ map mark_of others
 
-module _ {goal : List Element} {s : ℕ} {x l path heads places : List ℕ} {k n : ℕ} where
+module _ {goal : List Element} {s : ℕ} {x l path : List ℕ} where
   -- there is one
-  pub left-first : Left goal s x l path heads places k n → k < n → First goal s x l path heads places k n
-  left-first z h = go z.items z.going z.heads-are z.places-are z.count
+  left-first : {m : Mark} {ms : List Mark} → Left goal s x l path (m ∷ ms) → First goal s x l path m ms
+  left-first {m} {ms} z = go z.items z.going z.marks-are
     where
-      go : (is : List Item) → Going goal s x l path is → take (length is) (drop k heads) ≡ map (λ i. packed (mark_of i)) is
-          → take (length is) (drop k places) ≡ map (λ i. i.place) is → k + length is ≡ n → First goal s x l path heads places k n
-      go [] g e f c = absurd (omega arith)
-      go (i ∷ is) g e f c =
-          record {
-            item = i;
-            others = is;
-            going = g;
-            head = buffer-next heads k (length is) (packed (mark_of i)) (map (λ i. packed (mark_of i)) is) e;
-            place = buffer-next places k (length is) i.place (map (λ i. i.place) is) f;
-            count = omega arith;
-          }
+      go : (is : List Item) → Going goal s x l path is → m ∷ ms ≡ map mark_of is → First goal s x l path m ms
+      go [] g e = absurd (no-empty (sym e))
+      go (i ∷ is) g e = record { item = i; others = is; going = g; tells = cc; rest = cc }
 
-  module _ (z : First goal s x l path heads places k n) where
-    -- what its numbers say
-    pub first-tells : {h : Head} → (h.steps ≡ get_or heads k 0 % 8) × (h.name ≡ get_or heads k 0 / 64) × (h.label ≡ s) × (h.kind ≡ get_or heads k 0 / 8 % 8)
-        → Tells h (get_or places k 0) z.item
-    first-tells {h} u =
-        let fit : Fit s l z.item = z.going.ready.1 in
-        let small : z.item.content.kind ≤ 3 = (live_in z.item.content fit.value.shows).0 in
-        let is : get_or heads k 0 ≡ packed (mark_of z.item) = z.head.1 in
-        record {
-          steps = omega (arith, u.0, fit.shallow);
-          step = ap₂ (λ (n m : ℕ). record { name = n; label = m }) (omega (arith, u.1, fit.shallow)) (u.2 ∙ sym fit.own);
-          kind = omega (arith, u.3, fit.shallow);
-          value = z.place.1;
-        }
+  -- that of a place of the buffer
+  pub left-at : (ms : List Mark) (k : ℕ) (m : Mark) → k < length ms → Left goal s x l path (drop k ms) → First goal s x l path (get_or ms k m) (drop (k + 1) ms)
+  left-at ms k m h z =
+      left-first
+      (subst (λ (ns : List Mark). Left goal s x l path ns) (drop-cons ms k m h ∙ ap (λ (n : ℕ). get_or ms k m ∷ drop n ms) (sym (add-one k))) z)
 
-    -- the others are left when it was put in
-    pub first-left : {x' path' : List ℕ} → Going goal s x' l path' z.others → Left goal s x' l path' heads places (k + 1) n
-    first-left g = record { items = z.others; going = g; heads-are = z.head.2; places-are = z.place.2; count = z.count }
+  -- it is the way on
+  pub first-way : {m : Mark} {ms : List Mark} → First goal s x l path m ms → Way x l path s m
+  first-way z = record { goal = goal; item = z.item; others = z.others; going = z.going; tells = z.tells }
+
+  -- its steps are few
+  pub first-shallow : {m : Mark} {ms : List Mark} → First goal s x l path m ms → m.steps < 8
+  first-shallow z = rw z.tells (omega (arith, z.going.ready.1.shallow))
+
+  -- the others are left when it was put in
+  pub first-left : {m : Mark} {ms : List Mark} → First goal s x l path m ms → {x' path' : List ℕ} → Went x l path s m x' path' → Left goal s x' l path' ms
+  first-left z w = record { items = z.others; going = w goal z.item z.others z.going z.tells; marks-are = z.rest }
 
   -- ---- behind the last
 
-  pub left_end : Left goal s x l path heads places k n → n ≤ k → x ≡ layout goal
-  left_end z h = go z.items z.going z.count
+  pub left_end : (ms : List Mark) (k : ℕ) → length ms ≤ k → Left goal s x l path (drop k ms) → x ≡ layout goal
+  left_end ms k h z = go z.items z.going (sym (drop_of_length-le ms {i = k} h) ∙ z.marks-are)
     where
-      go : (is : List Item) → Going goal s x l path is → k + length is ≡ n → x ≡ layout goal
-      go [] g c = sym (layout-read key s x (well-formed key s x g.formed)) ∙ ap layout g.reaches
-      go (i ∷ is) g c = absurd (omega arith)
+      go : (is : List Item) → Going goal s x l path is → [] ≡ map mark_of is → x ≡ layout goal
+      go [] g e = sym (layout-read key s x (well-formed key s x g.formed)) ∙ ap layout g.reaches
+      go (i ∷ is) g e = absurd (no-empty e)

@@ -1,5 +1,5 @@
 -- How far the elements of a text are put into a partition.
-use Rattle.std.specs.Prelude.{◌≡◌, List, [], ◌∷◌, ◌++◌, map, ℕ, suc, ◌+◌, ◌≤◌, ◌<◌, length, take, drop, T}
+use Rattle.std.specs.Prelude.{◌≡◌, List, [], ◌∷◌, ◌++◌, map, ℕ, suc, ◌+◌, ◌≤◌, ◌<◌, length, drop, T, Some}
 use Rattle.std.proofs.Math.Option.{some}
 use Rattle.model.specs.Path.{Step, valid_step, is_prefix, steps_of}
 use Rattle.model.specs.Value.{Content}
@@ -9,15 +9,15 @@ use Rattle.model.specs.Intake.{with_all}
 use Rattle.model.proofs.Taking.{Coming}
 use Rattle.partition.specs.Place.{place_of, Room}
 use Rattle.scan_value.specs.Values.{Valued}
-use Rattle.xml_read.specs.Records.{Mark, packed}
-use Rattle.intake.specs.declared.Head.{Head}
+use Rattle.scan.specs.Shown.{kind_at}
+use Rattle.xml_read.specs.declared.Mark.{Mark}
 use Rattle.intake.specs.Putting.{above}
 
 -- ---- one element
 
--- the step of an element
-abbrev pub step_of : Head → Step
-step_of h = record { name = h.name; label = h.label }
+-- the step of an element of a label and a mark
+abbrev pub step_of : ℕ → Mark → Step
+step_of s m = record { name = m.name; label = s }
 
 -- an element may be put into the partition x, at the step a below the first n of a path
 pub record Below (x path : List ℕ) (n : ℕ) (a : Step) : Type 0 where
@@ -50,7 +50,7 @@ element_of i = record { path = path_of i; content = i.content }
 
 -- what is kept of it
 abbrev pub mark_of : Item → Mark
-mark_of i = record { steps = length i.over; name = i.step.name; shown = i.content.kind; place = i.place }
+mark_of i = record { steps = length i.over; name = i.step.name; shown = Some (kind_at i.content.kind); place = i.place }
 
 -- it is in form and bears label s, and its value stands at its place of the text l
 pub record Fit (s : ℕ) (l : List ℕ) (i : Item) : Type 0 where
@@ -75,33 +75,23 @@ pub record Going (goal : List Element) (s : ℕ) (x l path : List ℕ) (is : Lis
   pub room : length (read_partition x) + length is ≤ 32
   pub reaches : with_all (map element_of is) (read_partition x) ≡ goal
 
--- they are those whose marks stand from place k of two buffers on, up to place n
-pub record Left (goal : List Element) (s : ℕ) (x l path heads places : List ℕ) (k n : ℕ) : Type 0 where
+-- they are those whose marks are ms
+pub record Left (goal : List Element) (s : ℕ) (x l path : List ℕ) (ms : List Mark) : Type 0 where
   pub items : List Item
   pub going : Going goal s x l path items
-  pub heads-are : take (length items) (drop k heads) ≡ map (λ i. packed (mark_of i)) items
-  pub places-are : take (length items) (drop k places) ≡ map (λ i. i.place) items
-  pub count : k + length items ≡ n
+  pub marks-are : ms ≡ map mark_of items
 
 -- ---- the next of them
 
--- a head and a place are an element's
-pub record Tells (h : Head) (place : ℕ) (i : Item) : Type 0 where
-  pub steps : h.steps ≡ length i.over
-  pub step : step_of h ≡ i.step
-  pub kind : h.kind ≡ i.content.kind
-  pub value : place ≡ i.place
-
--- they are the next element's, whatever the partition comes to hold
-pub record Way (x l path : List ℕ) (h : Head) (place : ℕ) : Type 0 where
+-- a mark is the next element's, whatever the partition comes to hold
+pub record Way (x l path : List ℕ) (s : ℕ) (m : Mark) : Type 0 where
   pub goal : List Element
-  pub label : ℕ
   pub item : Item
   pub others : List Item
-  pub going : Going goal label x l path (item ∷ others)
-  pub tells : Tells h place item
+  pub going : Going goal s x l path (item ∷ others)
+  pub tells : m ≡ mark_of item
 
 -- it comes to hold the same with the others
-abbrev pub Went : (x l path : List ℕ) (h : Head) (place : ℕ) (x' path' : List ℕ) → Type 0
-Went x l path h place x' path' =
-    (goal : List Element) (s : ℕ) (i : Item) (is : List Item) → Going goal s x l path (i ∷ is) → Tells h place i → Going goal s x' l path' is
+abbrev pub Went : (x l path : List ℕ) (s : ℕ) (m : Mark) (x' path' : List ℕ) → Type 0
+Went x l path s m x' path' =
+    (goal : List Element) (i : Item) (is : List Item) → Going goal s x l path (i ∷ is) → m ≡ mark_of i → Going goal s x' l path' is

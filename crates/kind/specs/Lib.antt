@@ -1,2 +1,3 @@
--- The rules of the kinds as definitions.
+-- The numbers and the rules of the kinds as definitions.
+pub mod Code
 pub mod Rule

@@ -1,14 +1,15 @@
 -- The rule of each kind, and what passes a rule.
-use Rattle.std.specs.Prelude.{Bool, true, false, ◌&&◌, List, ℕ, zero, suc, length, leb}
+use Rattle.std.specs.Prelude.{Bool, true, false, ◌&&◌, List, ℕ, length, leb}
 use Rattle.model.specs.Lists.{all}
+use Rattle.kind.specs.declared.Kind.{Kind}
+use Rattle.kind.specs.declared.Kind.TheVariants.{Group, Measure, Text}
 use Rattle.kind.specs.declared.Rule.{Rule}
 
--- 0 group: no bytes; 1 measure: 4 bytes; 2 text: 1 to 16 bytes, each 32 to 126; no other kind has a value. The letters are G, M and T; a measure is a number
-unfoldable pub rule_of : ℕ → Rule
-rule_of zero = record { least = 0; most = 0; low = 0; high = 255; letter = 71; number = false }
-rule_of (suc zero) = record { least = 4; most = 4; low = 0; high = 255; letter = 77; number = true }
-rule_of (suc (suc zero)) = record { least = 1; most = 16; low = 32; high = 126; letter = 84; number = false }
-rule_of (suc (suc (suc k))) = record { least = 1; most = 0; low = 0; high = 255; letter = 84; number = false }
+-- a group: no bytes; a measure: 4 bytes; a text: 1 to 16 bytes, each 32 to 126. The letters are G, M and T; a measure is a number
+unfoldable pub rule_of : Kind → Rule
+rule_of Group = record { least = 0; most = 0; low = 0; high = 255; letter = 71; number = false }
+rule_of Measure = record { least = 4; most = 4; low = 0; high = 255; letter = 77; number = true }
+rule_of Text = record { least = 1; most = 16; low = 32; high = 126; letter = 84; number = false }
 
 -- low to high
 abbrev pub within : ℕ → ℕ → ℕ → Bool

@@ -1,8 +1,8 @@
 -- Lines by their parts.
-use mathlib.Core.Path.{◌≡◌, ap, ◌∙◌}
+use mathlib.Core.Path.{◌≡◌, ap}
 use mathlib.Core.Option.{none, some}
 use mathlib.Core.List.{List, [], ◌∷◌, ◌++◌, append_assoc}
-use Prim.Native.Nat.{ℕ, ◌<◌}
+use Prim.Native.Nat.{ℕ}
 use Rattle.model.specs.Path.{Step}
 use Rattle.model.specs.Text.{ascii, decimal}
 use Rattle.model.specs.View.{letter, shown, head_line}
@@ -13,9 +13,9 @@ unfolding line_of
 removed-line d a = simp append_assoc
 
 -- kind and value, up to the line's end
-pub content-end : {x k n : ℕ} (v : List ℕ) → x ∷ [] ≡ letter n → (n ≡ k) × (n < 256)
+pub content-end : (k : ℕ) (v : List ℕ) {x : ℕ} → x ∷ [] ≡ letter k
     → x ∷ 9 ∷ (shown k v ++ (10 ∷ [])) ≡ letter k ++ (9 ∷ (shown k v ++ (10 ∷ [])))
-content-end {k = k} v e f = ap (λ (l : List ℕ). l ++ (9 ∷ (shown k v ++ (10 ∷ [])))) (e ∙ ap letter f.0)
+content-end k v e = ap (λ (l : List ℕ). l ++ (9 ∷ (shown k v ++ (10 ∷ [])))) e
 
 pub live-line : (d : ℕ) (a : Step) (k : ℕ) (v : List ℕ)
     → line_start d a ++ (ascii "P\t" ++ (letter k ++ (9 ∷ (shown k v ++ (10 ∷ []))))) ≡ line_of d a (some (record { kind = k; value = v }))

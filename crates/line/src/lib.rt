@@ -1,79 +1,76 @@
-// The lines of a printed view put into an output from a place on, as `text` puts bytes and numbers.
+// The lines of a printed view put into an output.
 #![tactic(auto)]
 
 ghost use Rattle.std.proofs.Math.Option.{none, some};
 ghost use Rattle.std.specs.Prelude.{[], ◌∷◌, ◌++◌, ◌+◌, ◌<◌, T};
 ghost use Rattle.model.specs.Value.{allowed};
 ghost use Rattle.model.specs.View.{letter, shown, head_line};
-ghost use Rattle.text.specs.Overlay.{Wrote};
+ghost use Rattle.kind.specs.Code.{code};
+ghost use Rattle.text.specs.Output.{Puts};
+ghost use Rattle.text.specs.Step.{step_of};
 ghost use Rattle.line.specs.Line.{line_of, number_field, line_start};
 
+use kind::Kind;
+use text::{Output, Step};
+
 // A number and a tab.
-fn put_field(out: &mut [u8], at: usize, n: u32) -> usize
-    requires { at + 11 < 4294967296 }
-    ensures { Wrote out.old at (number_field n) out.new result }
+fn field(out: &mut Output, n: u32)
+    requires { out.old.at + 11 < 4294967296 }
+    ensures { Puts out.old (number_field n) out.new }
 {
-    let end = text::put_decimal(out, at, n);
-    text::put_byte(out, end, b'\t')
+    out.put_decimal(n);
+    out.put_byte(b'\t');
 }
 
 // Depth, name and label, each with a tab.
-fn put_start(out: &mut [u8], at: usize, depth: u32, name: u32, label: u32) -> usize
-    requires { at + 33 < 4294967296 }
-    ensures { Wrote out.old at (line_start depth (record { name = name; label = label })) out.new result }
+fn start(out: &mut Output, depth: u32, step: Step)
+    requires { out.old.at + 33 < 4294967296 }
+    ensures { Puts out.old (line_start depth (step_of step)) out.new }
 {
-    let second = put_field(out, at, depth);
-    let third = put_field(out, second, name);
-    put_field(out, third, label)
+    field(out, depth);
+    field(out, step.name);
+    field(out, step.label);
 }
 
 // The line of a removed element.
-pub fn put_removed(out: &mut [u8], at: usize, depth: u32, name: u32, label: u32) -> usize
-    requires { at + 64 < 4294967296 }
-    ensures { Wrote out.old at (line_of depth (record { name = name; label = label }) none) out.new result }
+pub fn removed(out: &mut Output, depth: u32, step: Step)
+    requires { out.old.at + 64 < 4294967296 }
+    ensures { Puts out.old (line_of depth (step_of step) none) out.new }
 {
-    let mark = put_start(out, at, depth, name, label);
-    text::put_bytes(out, mark, b"R\t-\t-\n")
+    start(out, depth, step);
+    out.put_bytes(b"R\t-\t-\n");
 }
 
 // Kind and value of a live element, up to the line's end.
-fn put_content(out: &mut [u8], at: usize, kind: u8, value: &[u8]) -> usize
-    requires at_bound { at + 19 < 4294967296 }
-    requires t { T (allowed kind value.now) }
-    ensures { Wrote out.old at (letter kind ++ (9 ∷ (shown kind value.now ++ (10 ∷ [])))) out.new result }
+fn content(out: &mut Output, kind: Kind, value: &[u8])
+    requires at_bound { out.old.at + 19 < 4294967296 }
+    requires t { T (allowed (code kind) value.now) }
+    ensures { Puts out.old (letter (code kind) ++ (9 ∷ (shown (code kind) value.now ++ (10 ∷ [])))) out.new }
 {
-    let tab = text::put_byte(out, at, kind::letter_of(octets::wide(kind)));
-    let shown = text::put_byte(out, tab, b'\t');
-    let end = text::put_value(out, shown, kind, value);
-    text::put_byte(out, end, b'\n')
+    out.put_byte(kind.letter());
+    out.put_byte(b'\t');
+    out.put_value(kind, value);
+    out.put_byte(b'\n');
 }
 
 // The line of a live element.
-pub fn put_live(
-    out: &mut [u8],
-    at: usize,
-    depth: u32,
-    name: u32,
-    label: u32,
-    kind: u8,
-    value: &[u8],
-) -> usize
-    requires at_bound { at + 64 < 4294967296 }
-    requires t { T (allowed kind value.now) }
-    ensures { Wrote out.old at (line_of depth (record { name = name; label = label }) (some (record { kind = kind; value = value.now }))) out.new result }
+pub fn live(out: &mut Output, depth: u32, step: Step, kind: Kind, value: &[u8])
+    requires at_bound { out.old.at + 64 < 4294967296 }
+    requires t { T (allowed (code kind) value.now) }
+    ensures { Puts out.old (line_of depth (step_of step) (some (record { kind = code kind; value = value.now }))) out.new }
 {
-    let mark = put_start(out, at, depth, name, label);
-    let letter = text::put_bytes(out, mark, b"P\t");
-    put_content(out, letter, kind, value)
+    start(out, depth, step);
+    out.put_bytes(b"P\t");
+    content(out, kind, value);
 }
 
 // The first line of a listing: the subject and how many lines follow.
-pub fn put_head(out: &mut [u8], at: usize, subject: u32, lines: u32) -> usize
-    requires { at + 64 < 4294967296 }
-    ensures { Wrote out.old at (head_line subject lines) out.new result }
+pub fn head(out: &mut Output, subject: u32, lines: u32)
+    requires { out.old.at + 64 < 4294967296 }
+    ensures { Puts out.old (head_line subject lines) out.new }
 {
-    let first = text::put_bytes(out, at, b"VIEW\t");
-    let second = put_field(out, first, subject);
-    let end = text::put_decimal(out, second, lines);
-    text::put_byte(out, end, b'\n')
+    out.put_bytes(b"VIEW\t");
+    field(out, subject);
+    out.put_decimal(lines);
+    out.put_byte(b'\n');
 }

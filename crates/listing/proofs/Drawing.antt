@@ -85,30 +85,28 @@ pub content-own : (e : Element) → content_at (e ∷ []) e.path ≡ some e.cont
 content-own e = cond_yes (same_path e.path e.path) (some e.content) none (same_refl e.path)
 
 -- the line of the first d + 1 steps, by the numbers read
-pub above-line : (b : List ℕ) (d : ℕ) → d + 1 < depth b → {x n m l : ℕ} → x ≡ d + 1 → (n ≡ (step_at b d).name) × (n < 65536)
-    → m ≡ (step_at b d).label → (l ≡ m) × (l < 256)
-    → line_of x (record { name = n; label = l }) none ≡ path_line (read_slot b ∷ []) (take (d + 1) (read_path b))
+pub above-line : (b : List ℕ) (d : ℕ) → d + 1 < depth b → {x : ℕ} {a : Step} → x ≡ d + 1 → a ≡ step_at b d
+    → line_of x a none ≡ path_line (read_slot b ∷ []) (take (d + 1) (read_path b))
 unfolding read_slot
-above-line b d h ex en em el =
+above-line b d h ex e =
     let l : length (read_path b) ≡ depth b = length-path b in
     let k : length (take (d + 1) (read_path b)) ≡ d + 1 = length-take-le (d + 1) (read_path b) (omega arith) in
     let t : last_step (take (d + 1) (read_path b)) ≡ some (step_at b d) =
     ap (λ (n : ℕ). last_step (take n (read_path b))) (add-one d) ∙ last_step_lem b d (omega arith) in
     let c : content_at (read_slot b ∷ []) (take (d + 1) (read_path b)) ≡ none = content-shorter (read_slot b) (take (d + 1) (read_path b)) (omega arith) in
-    rw (ex, en.0, el.0, em) (path-line (read_slot b) (take (d + 1) (read_path b)) k t c)
+    rw (ex, e) (path-line (read_slot b) (take (d + 1) (read_path b)) k t c)
 
 -- the line of the whole path, by the numbers and the value read
-pub own_line : (b : List ℕ) → 1 ≤ depth b → {d x n m l k : ℕ} {v : List ℕ} → (d ≡ depth b) × (d < 256) → x ≡ d
-    → (n ≡ (step_at b (d - 1)).name) × (n < 65536) → m ≡ (step_at b (d - 1)).label → (l ≡ m) × (l < 256)
-    → k ≡ (read_content b).kind → v ≡ (read_content b).value
-    → line_of x (record { name = n; label = l }) (some (record { kind = k; value = v })) ≡ path_line (read_slot b ∷ []) (read_path b)
+pub own_line : (b : List ℕ) → 1 ≤ depth b → {d x k : ℕ} {a : Step} {v : List ℕ} → (d ≡ depth b) × (d < 256) → x ≡ d
+    → a ≡ step_at b (d - 1) → k ≡ (read_content b).kind → v ≡ (read_content b).value
+    → line_of x a (some (record { kind = k; value = v })) ≡ path_line (read_slot b ∷ []) (read_path b)
 unfolding read_slot
-own_line b h {d} ed ex en em el ek ev =
+own_line b h {d} ed ex e ek ev =
     let l : length (read_path b) ≡ d = length-path b ∙ sym ed.0 in
     let s : suc (d - 1) ≡ d = omega (arith, ed.0) in
     let t : last_step (read_path b) ≡ some (step_at b (d - 1)) =
     ap last_step (sym (take_all (suc (d - 1)) (read_path b) (omega arith))) ∙ last_step_lem b (d - 1) (omega (arith, ed.0)) in
-    rw (ex, en.0, el.0, em, ek, ev) (path-line (read_slot b) (read_path b) l t (content-own (read_slot b)))
+    rw (ex, e, ek, ev) (path-line (read_slot b) (read_path b) l t (content-own (read_slot b)))
 
 -- ---- the lines from one prefix on
 
@@ -149,7 +147,7 @@ module _ (n : ℕ) (e : Element) (valid : T (valid_element n e)) where
       let a = last-valid e.path d h (search (and_l, and_r)) in
       let k : Fits w32 (length p) = record { fits = omega (arith, length-take-le (suc d) e.path h, (valid-fits n e valid).steps) } in
       let c : T (storable e.content) = search (and_l, and_r) in
-      subst (λ (l : List ℕ). length l ≤ 64) (path-line e p refl a.1 refl) (line-short k (record { fits = omega (arith, a.2) }) (record { fits = omega (arith, a.3) }) (same_path p e.path) e.content c)
+      subst (λ (l : List ℕ). length l ≤ 64) (path-line e p refl a.1 refl) (line-short k (omega (arith, a.2), omega (arith, a.3)) (same_path p e.path) e.content c)
 
   -- the lines of the prefixes with more than d steps, k of them
   pub lines-short : (k d : ℕ) → k ≡ length e.path - d → length (gather (path_line (e ∷ [])) (drop d (prefixes e.path))) ≤ 64 * k

@@ -11,17 +11,14 @@ use lib.Dec.{T}
 use Rattle.model.specs.Lists.{gather}
 use Rattle.model.specs.Path.{Step, is_prefix, parent, prefixes, steps_of}
 use Rattle.model.specs.Element.{Element}
-use Rattle.model.specs.Slot.{depth, read_path, read_slot}
+use Rattle.model.specs.Slot.{slot_size, depth, read_path, read_slot}
 use Rattle.model.specs.Model.{open_model}
-use Rattle.model.specs.View.{visible, path_line, seen_below, below}
+use Rattle.model.specs.View.{visible, path_line, seen_below}
 use Rattle.model.proofs.Lists.{all_get_d}
-use Rattle.model.proofs.Prefixes.{length-parent}
 use Rattle.path.specs.Common.{common, Compared}
-use Rattle.path.proofs.Steps.{length-steps}
-use Rattle.slot.specs.Slot.{Readable}
 use Rattle.slot.proofs.Reading.{length-path}
 use Rattle.text.specs.Overlay.{Wrote}
-use Rattle.text.proofs.Overlays.{over-length, Going, going_start, going_step, going_end}
+use Rattle.text.proofs.Overlays.{Going, going_start, going_step, going_end}
 use Rattle.store.specs.Opened.{Opened}
 use Rattle.order.specs.Refs.{slot_of, element_of, refers, Refers}
 use Rattle.order.proofs.Naming.{ref-valid}
@@ -68,19 +65,19 @@ module _ {s : ℕ} {b : List ℕ} (p : List Step) {rs : List ℕ} (r : Refers s 
   pub here-below : T (is_prefix p (element_of b (get_or rs i 0)).path)
   here-below = here.below (element_of b (get_or rs i 0)) (Memᴰ.head refl)
 
-  module _ {x : List ℕ} (g : (x ≡ slot_of b (get_or rs i 0)) × Readable x) where
+  module _ {x : List ℕ} (g : x ≡ slot_of b (get_or rs i 0)) where
     read_here : read_slot x ≡ element_of b (get_or rs i 0)
     unfolding element_of
-    read_here = ap read_slot g.0
+    read_here = ap read_slot g
 
     path-here : read_path x ≡ (element_of b (get_or rs i 0)).path
     unfolding element_of read_slot
-    path-here = ap read_path g.0
+    path-here = ap read_path g
 
-    pub here-used : Opened b s → Used x
-    here-used o =
+    pub here-used : Opened b s → length x ≡ slot_size → Used x
+    here-used o w =
         record {
-          size = g.1.size;
+          size = w;
           label = get_or rs i 0 / 32;
           valid = rw read_here (ref-valid s b (get_or rs i 0) here-refers o);
         }
@@ -113,26 +110,18 @@ module _ {s : ℕ} {b : List ℕ} (p : List Step) {rs : List ℕ} (r : Refers s 
 -- ---- what the path of reference i shares with the path before it
 
 module _ {s : ℕ} {b : List ℕ} (q : List ℕ) {rs : List ℕ} (r : Refers s b rs (seen_below s (open_model b) (steps_of q))) {i : ℕ} (h : i < length rs) where
-  parent-shares : i ≡ 0 → common (path_above b (steps_of q) rs i) (element_of b (get_or rs i 0)).path ≡ length q / 3 - 1
-  parent-shares e =
+  pub first-shares : i ≡ 0 → common (path_above b (steps_of q) rs i) (element_of b (get_or rs i 0)).path ≡ length (parent (steps_of q))
+  first-shares e =
       ap (λ (n : ℕ). common (path_above b (steps_of q) rs n) (element_of b (get_or rs i 0)).path) e
       ∙ parent-common (steps_of q) (element_of b (get_or rs i 0)).path (here-below (steps_of q) r i h)
-      ∙ length-parent (steps_of q)
-      ∙ ap (λ (n : ℕ). n - 1) (length-steps q)
 
-  pub root-shares : i ≡ 0 → length q / 3 ≡ 0 → 0 ≡ common (path_above b (steps_of q) rs i) (element_of b (get_or rs i 0)).path
-  root-shares e z = let l = parent-shares e in omega (arith, l)
-
-  pub first-shares : i ≡ 0 → (length q / 3 ≡ 0 → ⊥) → length q / 3 - 1 ≡ common (path_above b (steps_of q) rs i) (element_of b (get_or rs i 0)).path
-  first-shares e z = sym (parent-shares e)
-
-  pub before-shares : (i ≡ 0 → ⊥) → {x y : List ℕ} → (x ≡ slot_of b (get_or rs (i - 1) 0)) × Readable x → (y ≡ slot_of b (get_or rs i 0)) × Readable y
+  pub before-shares : (i ≡ 0 → ⊥) → {x y : List ℕ} → x ≡ slot_of b (get_or rs (i - 1) 0) → y ≡ slot_of b (get_or rs i 0)
       → {k : ℕ} {t : Bool} → Compared (read_path x) (read_path y) k t → k ≡ common (path_above b (steps_of q) rs i) (element_of b (get_or rs i 0)).path
   unfolding element_of read_slot
   before-shares z {x} {y} f g m =
       let j : i ≡ suc (i - 1) = omega (arith, z) in
       m.shared-is
-      ∙ ap₂ (λ (l o : List ℕ). common (read_path l) (read_path o)) f.0 g.0
+      ∙ ap₂ (λ (l o : List ℕ). common (read_path l) (read_path o)) f g
       ∙ sym (ap (λ (n : ℕ). common (path_above b (steps_of q) rs n) (element_of b (get_or rs i 0)).path) j)
 
 -- at most six lines for a reference
@@ -153,7 +142,7 @@ count-start p r =
     }
 
 module _ {s : ℕ} {b : List ℕ} (p : List Step) {rs : List ℕ} (r : Refers s b rs (seen_below s (open_model b) p)) {lines i : ℕ} (inv : Counting s b p rs lines i) where
-  pub count_next : (h : i < length rs) {x : List ℕ} → (x ≡ slot_of b (get_or rs i 0)) × Readable x
+  pub count_next : (h : i < length rs) {x : List ℕ} → x ≡ slot_of b (get_or rs i 0)
       → {k : ℕ} → k ≡ common (path_above b p rs i) (element_of b (get_or rs i 0)).path → {d : ℕ} → (d ≡ depth x) × (d < 256)
       → Counting s b p rs (lines + (d - k)) (i + 1)
   count_next h {x} g {k} e {d} f =
@@ -187,7 +176,7 @@ walk_start {s} {b} p r out at =
 
 module _ {s : ℕ} {b : List ℕ} (p : List Step) {rs : List ℕ} (r : Refers s b rs (seen_below s (open_model b) p)) {out₀ : List ℕ} {at : ℕ} {out : List ℕ} {to i : ℕ}
     (inv : Walking s b p rs out₀ at out to i) where
-  pub walk-next : (h : i < length rs) {x : List ℕ} → (x ≡ slot_of b (get_or rs i 0)) × Readable x
+  pub walk-next : (h : i < length rs) {x : List ℕ} → x ≡ slot_of b (get_or rs i 0)
       → {k : ℕ} → k ≡ common (path_above b p rs i) (element_of b (get_or rs i 0)).path
       → {out' : List ℕ} {to' : ℕ} → Wrote out to (lines_from k x) out' to' → Walking s b p rs out₀ at out' to' (i + 1)
   walk-next h g e w =
@@ -211,9 +200,3 @@ module _ {s : ℕ} {b : List ℕ} (p : List Step) {rs : List ℕ} (r : Refers s 
   -- at most 384 bytes for a reference
   pub walk-room : to ≤ at + 384 * length rs
   walk-room = omega (arith, inv.going.ends, (below-short s b p).0, few-lines p r)
-
-  pub walk-size : length out ≡ length out₀
-  walk-size =
-      sym (over-length out to (walk_lines (path_above b p rs i) (from_ref s b p rs i)))
-      ∙ ap length inv.going.laid
-      ∙ over-length out₀ at (walk_lines (parent p) (seen_below s (open_model b) p))

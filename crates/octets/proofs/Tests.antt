@@ -13,6 +13,7 @@ use mir.Syntax.{w8}
 use mir.Val.{Fits}
 use mir.Facts.{yes_ltb, Fits-lt-pow}
 use borrow.Author.Tests.{ne_eqb}
+use Rattle.std.specs.List.{list_all}
 use Rattle.model.specs.Lists.{all, between, is_byte}
 use Rattle.model.proofs.Bools.{both}
 use Rattle.model.proofs.Lists.{Bytes, all_both, drop-part, between-one}
@@ -71,6 +72,11 @@ module _ {p : ℕ → Bool} (s : List ℕ) (k i : ℕ) {t : Bool} (inv : Tested 
 -- so it is before the first member
 pub tail-start : (p : ℕ → Bool) (s : List ℕ) (k : ℕ) → Tested p (drop k s) true (0 - k)
 tail-start p s k = let e : 0 - k ≡ 0 = omega arith in rw e (test-start p (drop k s))
+
+-- the library's test of every member is the model's
+pub all_same : {A : Type 0} (p : A → Bool) (s : List A) → list_all p s ≡ all p s
+all_same p [] = refl
+all_same p (x ∷ s) = ap (λ (t : Bool). p x && t) (all_same p s)
 
 byte : (x : ℕ) → Fits w8 x → T (is_byte x)
 unfolding is_byte

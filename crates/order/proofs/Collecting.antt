@@ -2,7 +2,7 @@
 use mathlib.Core.Path.{◌≡◌, refl, sym, ap, ap₂, ◌∙◌}
 use mathlib.Core.Bool.{Bool, true, false, cond}
 use mathlib.Core.List.{List, [], ◌∷◌, ◌++◌, map}
-use Prim.Native.Nat.{ℕ, zero, suc, ◌+◌, ◌*◌, ◌/◌, ◌%◌, ◌≤◌, ◌<◌}
+use Prim.Native.Nat.{ℕ, zero, suc, ◌+◌, ◌-◌, ◌*◌, ◌/◌, ◌%◌, ◌≤◌, ◌<◌}
 use native.Mathlib.Omega.{arith}
 use lib.ListN.{length, take, drop}
 use lib.Seq.{take_at}
@@ -25,6 +25,7 @@ use Rattle.partition.proofs.Finding.{facts, element_at, run-within, run-kept}
 use Rattle.partition.proofs.Layouts.{length-elements}
 use Rattle.path.proofs.Steps.{root-steps}
 use Rattle.store.specs.Opened.{Opened}
+use Rattle.store.proofs.Parts.{dominated-lt, is-dominated}
 use Rattle.store.proofs.Viewing.{opened-formed, opened-set}
 use Rattle.order.specs.Refs.{slot_of, element_of, refers, Refers, seen_at}
 
@@ -57,9 +58,6 @@ module _ (s : ℕ) (b : List ℕ) (n : ℕ) where
 
 -- ---- the run of a path
 
-pub part-size : {x : List ℕ} → Formed x → length x ≡ partition_size
-part-size f = (facts f).size
-
 -- the root stands before all elements, and all extend it
 pub root-place : (x p : List ℕ) → length p < 3 → 0 ≡ place_of (steps_of p) (read_partition x)
 root-place x p h = go (read_partition x) ∙ ap (λ (q : List Step). place_of q (read_partition x)) (sym (root-steps p h))
@@ -72,10 +70,14 @@ root-place x p h = go (read_partition x) ∙ ap (λ (q : List Step). place_of q 
     go [] = refl
     go (e ∷ es) = first (path_rank e.path) (suc (place_of [] es))
 
-pub root-run : {x : List ℕ} → Formed x → (p : List ℕ) → length p < 3 → {k : ℕ} → (k ≡ count x) × (k < 256) → k ≡ extending (steps_of p) (read_partition x)
+-- the run of a path ends within the partition
+pub run-small : {x : List ℕ} (f : Formed x) (p : List Step) {at k : ℕ} → at ≡ place_of p (read_partition x) → k ≡ extending p (read_partition x) → at + k ≤ 32
+run-small f p g h = omega (arith, run-within f p g h, (facts f).few)
+
+pub root-run : {x : List ℕ} → Formed x → (p : List ℕ) → length p < 3 → {k : ℕ} → k ≡ count x → k ≡ extending (steps_of p) (read_partition x)
 unfolding extending
 root-run {x} f p h {k} g =
-    g.0
+    g
     ∙ sym (length-elements f)
     ∙ ap length (sym (keep-true (read_partition x)))
     ∙ ap (λ (q : List Step). length (keep (λ d. is_prefix q d.path) (read_partition x))) (sym (root-steps p h))
@@ -87,43 +89,49 @@ root-run {x} f p h {k} g =
 -- ---- what was collected
 
 module _ {b : List ℕ} {s : ℕ} (o : Opened b s) (p : List Step) (n : ℕ) {r : Bool} (e : r ≡ dominates s n) where
-  pub none-collected : r ≡ false → (refs : List ℕ) → Refers s b (take 0 refs) (seen_at s b p n)
+  pub none-collected : r ≡ false → Refers s b [] (seen_at s b p n)
   unfolding seen_at
-  none-collected t refs =
+  none-collected t =
       let q : dominates s n ≡ false = sym e ∙ t in
       record { valid = tt; named = sym (ap (λ (c : Bool). keep (λ d. is_prefix p d.path) (cond c (own_set n (open_model b)) [])) q) }
 
   module _ (yes : r ≡ true) where
-    pub dominated : T (dominates s n)
-    dominated = let q : dominates s n ≡ true = sym e ∙ yes in rw q tt
+    dominated : T (dominates s n)
+    dominated = is-dominated s n b e yes
+
+    pub label-small : n < 32
+    label-small = dominated-lt s n dominated
 
     module _ {x : List ℕ} (g : (x ≡ partition n b) × (length x ≡ partition_size)) where
       pub formed : Formed x
       formed = record { label = n; is = rw g.0 (opened-formed o n dominated) }
 
-      module _ {at k : ℕ} (f : at ≡ place_of p (read_partition x)) (h : k ≡ extending p (read_partition x)) where
-        within : at + k ≤ count x
-        within = run-within formed p f h
+      module _ {at to : ℕ} (f : at ≡ place_of p (read_partition x)) (h : to ≡ at + extending p (read_partition x)) where
+        counts : to - at ≡ extending p (read_partition x)
+        counts = omega (arith, h)
 
-        pub few-collected : at + k ≤ 32
+        within : at + (to - at) ≤ count x
+        within = run-within formed p f counts
+
+        pub few-collected : at + (to - at) ≤ 32
         few-collected = omega (arith, within, (facts formed).few)
 
-        pub collected : {first : ℕ} → first ≡ 32 * n + at → (refs : List ℕ) {y : List ℕ} → y ≡ range (λ m. m) first k ++ drop k refs
-            → Refers s b (take k y) (seen_at s b p n)
+        pub collected : {first : ℕ} → first ≡ 32 * n + at → (refs : List ℕ) {y : List ℕ} → y ≡ range (λ m. m) first (to - at) ++ drop (to - at) refs
+            → Refers s b (take (to - at) y) (seen_at s b p n)
         unfolding seen_at
         collected {first} i refs {y} j =
-            let w : at + k ≤ count (partition n b) = rw g.0 at within in
-            let z : take k y ≡ range (λ m. m) (32 * n + at) k =
-            ap (take k) j
-            ∙ take_at (range (λ m. m) first k) (drop k refs) k (length-range (λ m. m) first k)
-            ∙ ap (λ (m : ℕ). range (λ q. q) m k) i in
+            let w : at + (to - at) ≤ count (partition n b) = rw g.0 at within in
+            let z : take (to - at) y ≡ range (λ m. m) (32 * n + at) (to - at) =
+            ap (take (to - at)) j
+            ∙ take_at (range (λ m. m) first (to - at)) (drop (to - at) refs) (to - at) (length-range (λ m. m) first (to - at))
+            ∙ ap (λ (m : ℕ). range (λ q. q) m (to - at)) i in
             record {
-              valid = rw z (label-valid s b n dominated at k few-collected w);
+              valid = rw z (label-valid s b n dominated at (to - at) few-collected w);
               named =
                   ap (map (element_of b)) z
-                  ∙ label-named s b n at k few-collected
-                  ∙ ap (λ (l : List ℕ). range (element_at l) at k) (sym g.0)
-                  ∙ sym (run-kept formed p f h)
+                  ∙ label-named s b n at (to - at) few-collected
+                  ∙ ap (λ (l : List ℕ). range (element_at l) at (to - at)) (sym g.0)
+                  ∙ sym (run-kept formed p f counts)
                   ∙ ap (λ (l : List ℕ). keep (λ d. is_prefix p d.path) (read_partition l)) g.0
                   ∙ ap (λ (l : List Element). keep (λ d. is_prefix p d.path) l)
                   (sym (cond_yes (dominates s n) (own_set n (open_model b)) [] dominated ∙ opened-set o n dominated));

@@ -1,5 +1,5 @@
 -- Numbers written one after another.
-use mathlib.Core.Path.{◌≡◌, refl, sym, ap, ap₂, ◌∙◌}
+use mathlib.Core.Path.{◌≡◌, sym, ap, ap₂, ◌∙◌}
 use mathlib.Core.List.{List, [], ◌∷◌, ◌++◌, append_assoc}
 use Prim.Native.Nat.{ℕ, suc, ◌+◌, ◌-◌, ◌≤◌, ◌<◌}
 use native.Mathlib.Omega.{arith}
@@ -12,11 +12,8 @@ pub record Counted (refs₀ : List ℕ) (first k : ℕ) (refs : List ℕ) (i : �
   pub within : i ≤ k
   pub is : refs ≡ range (λ n. n) first i ++ drop i refs₀
 
-pub count-start : (refs : List ℕ) (first k : ℕ) → Counted refs first k refs 0
-count-start refs first k = record { within = omega arith; is = refl }
-
 module _ {refs₀ refs : List ℕ} {first k i : ℕ} (inv : Counted refs₀ first k refs i) (h : k ≤ length refs₀) where
-  pub count-size : length refs ≡ length refs₀
+  count-size : length refs ≡ length refs₀
   count-size =
       let w : i ≤ k = inv.within in
       let a : length (range (λ n. n) first i) ≡ i = length-range (λ n. n) first i in
@@ -39,8 +36,3 @@ module _ {refs₀ refs : List ℕ} {first k i : ℕ} (inv : Counted refs₀ firs
             ∙ ap (λ (r : List ℕ). r ++ drop (suc i) refs₀) (range_last (λ n. n) first i)
             ∙ append_assoc (range (λ n. n) first i) ((first + i) ∷ []) (drop (suc i) refs₀));
       }
-
-  pub count-end : k ≤ i → refs ≡ range (λ n. n) first k ++ drop k refs₀
-  count-end l =
-      let e : i ≡ k = omega (arith, inv.within) in
-      inv.is ∙ ap (λ (n : ℕ). range (λ m. m) first n ++ drop n refs₀) e

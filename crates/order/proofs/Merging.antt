@@ -1,7 +1,7 @@
 -- Merging two ascending runs: what was taken, and then the rest in path order, is the whole in path order.
 use mathlib.Core.Path.{◌≡◌, refl, sym, ap, ap₂, subst, ◌∙◌}
 use mathlib.Core.Bool.{Bool, true, false}
-use mathlib.Core.List.{List, [], ◌∷◌, ◌++◌, map, map-append, append_assoc, append-nil}
+use mathlib.Core.List.{List, [], ◌∷◌, ◌++◌, map, map-append, append_assoc}
 use Prim.Native.Nat.{ℕ, zero, suc, ◌+◌, ◌≤◌, ◌<◌}
 use native.Mathlib.Omega.{arith}
 use lib.ListN.{length, get_or, take, drop, set, length-set, drop_of_length-le}
@@ -12,10 +12,9 @@ use Rattle.model.specs.Lists.{all}
 use Rattle.model.specs.Sets.{sort, is_before, ahead, sorted}
 use Rattle.model.specs.Element.{Element, rank}
 use Rattle.model.proofs.Bools.{and_l, and_r, both}
-use Rattle.model.proofs.Lists.{all_append}
+use Rattle.model.proofs.Lists.{all_append, all_get_d}
 use Rattle.model.proofs.Order.{ahead-trans, sort-first, sort-behind}
-use Rattle.order.specs.Refs.{element_of, refers, Refers, Runs, Takes}
-use Rattle.order.proofs.Naming.{first-valid, second-valid}
+use Rattle.order.specs.Refs.{element_of, refers, Runs, Takes}
 
 -- the first of a run comes before another run if it comes before that one's first
 unfoldable leads : Element → List Element → Bool
@@ -57,12 +56,8 @@ pub record Merging (s : ℕ) (b xs ys refs₀ : List ℕ) (n : ℕ) (refs : List
   pub same : map (element_of b) (take (i + j) refs) ++ sort rank (map (element_of b) (drop i xs) ++ map (element_of b) (drop j ys))
       ≡ sort rank (map (element_of b) xs ++ map (element_of b) ys)
 
-pub merge-start : (s : ℕ) (b xs ys refs : List ℕ) (n : ℕ) → n ≡ length xs + length ys → length xs + length ys ≤ length refs → Merging s b xs ys refs n refs 0 0
-merge-start s b xs ys refs n e h =
-    record { total = e; size = refl; fits = omega arith; first = omega arith; second = omega arith; valid = tt; same = refl }
-
 module _ {s : ℕ} {b xs ys : List ℕ} (u : Runs s b xs ys) {refs₀ refs : List ℕ} {n i j : ℕ} (inv : Merging s b xs ys refs₀ n refs i j) where
-  pub merge-room : i + j < n → i + j < length refs
+  merge-room : i + j < n → i + j < length refs
   merge-room h = omega (arith, inv.size, inv.fits)
 
   -- a reference is written behind those taken
@@ -80,10 +75,10 @@ module _ {s : ℕ} {b xs ys : List ℕ} (u : Runs s b xs ys) {refs₀ refs : Lis
         ∙ append_assoc (map (element_of b) (take (i + j) refs)) (element_of b r ∷ []) rest)
 
   module _ {t : Bool} (k : Takes b xs i ys j t) (h : i + j < n) where
-    pub first-there : t ≡ true → i < length xs
+    first-there : t ≡ true → i < length xs
     first-there e = (k.first e).0
 
-    pub second-there : t ≡ false → j < length ys
+    second-there : t ≡ false → j < length ys
     second-there e = (k.second e).0
 
     -- a run that has ended hinders nothing
@@ -112,7 +107,7 @@ module _ {s : ℕ} {b xs ys : List ℕ} (u : Runs s b xs ys) {refs₀ refs : Lis
         let w : i + 1 ≡ suc i = omega arith in
         let z : i + 1 + j ≡ suc (i + j) = omega arith in
         let d : drop i xs ≡ x ∷ drop (suc i) xs = drop-cons xs i 0 m in
-        let v : T (refers s b x) = first-valid u i m in
+        let v : T (refers s b x) = all_get_d (refers s b) xs i 0 m u.valid-x in
         record {
           total = inv.total;
           size = length-set refs (i + j) x ∙ inv.size;
@@ -139,7 +134,7 @@ module _ {s : ℕ} {b xs ys : List ℕ} (u : Runs s b xs ys) {refs₀ refs : Lis
         let w : j + 1 ≡ suc j = omega arith in
         let z : i + (j + 1) ≡ suc (i + j) = omega arith in
         let d : drop j ys ≡ y ∷ drop (suc j) ys = drop-cons ys j 0 m in
-        let v : T (refers s b y) = second-valid u j m in
+        let v : T (refers s b y) = all_get_d (refers s b) ys j 0 m u.valid-y in
         record {
           total = inv.total;
           size = length-set refs (i + j) y ∙ inv.size;
@@ -158,18 +153,3 @@ module _ {s : ℕ} {b xs ys : List ℕ} (u : Runs s b xs ys) {refs₀ refs : Lis
               (subst (λ (l : List ℕ). T (sorted rank (map (element_of b) l))) d (sorted-left b ys j u.ascends-y)) (leads-second e)))
               ∙ inv.same;
         }
-
-  pub merge-end : n ≤ i + j → Refers s b (take (length xs + length ys) refs) (sort rank (map (element_of b) xs ++ map (element_of b) ys))
-  merge-end h =
-      let z : length xs + length ys ≡ i + j = omega (arith, inv.total, inv.first, inv.second) in
-      let p : length xs ≤ i = omega (arith, inv.total, inv.second) in
-      let q : length ys ≤ j = omega (arith, inv.total, inv.first) in
-      record {
-        valid = rw z inv.valid;
-        named =
-            ap (λ (k : ℕ). map (element_of b) (take k refs)) z
-            ∙ sym (append-nil (map (element_of b) (take (i + j) refs)))
-            ∙ ap₂ (λ (l m : List ℕ). map (element_of b) (take (i + j) refs) ++ sort rank (map (element_of b) l ++ map (element_of b) m))
-            (sym (drop_of_length-le xs p)) (sym (drop_of_length-le ys q))
-            ∙ inv.same;
-      }

@@ -1,16 +1,16 @@
 -- The occupied labels, found one after another; they stand for all.
-use mathlib.Core.Path.{◌≡◌, refl, sym, ap, ap₂, subst, ◌∙◌}
+use mathlib.Core.Path.{◌≡◌, refl, sym, ap, ap₂, ◌∙◌}
 use mathlib.Core.Bool.{Bool, true, false, not, cond}
 use mathlib.Core.List.{List, [], ◌∷◌, ◌++◌, append_assoc, append-nil}
 use Prim.Native.Nat.{ℕ, zero, suc, ◌+◌, ◌-◌, ◌≤◌, ◌<◌}
 use native.Mathlib.Omega.{arith}
-use lib.ListN.{length, take, drop, set, length-append, length-set, length-take}
+use lib.ListN.{length, take, drop, set, length-append, length-set}
 use lib.Seq.{take_at, set_split, length-take-le}
 use lib.Dec.{T}
 use mir.Facts.{or_no}
 use Rattle.model.specs.Lists.{any, keep, range}
 use Rattle.model.specs.Sets.{sort}
-use Rattle.model.specs.Label.{labels, dominates}
+use Rattle.model.specs.Label.{is_label, labels, dominates}
 use Rattle.model.specs.Path.{Step, is_prefix}
 use Rattle.model.specs.Element.{Element, rank}
 use Rattle.model.specs.Model.{open_model, own_set}
@@ -19,7 +19,7 @@ use Rattle.model.proofs.Bools.{decide, cond_no, is_false}
 use Rattle.model.proofs.Lists.{range_last, range_split}
 use Rattle.model.proofs.Members.{keep_append, keep-gather}
 use Rattle.model.proofs.Dominance.{label-lt, dominates-le}
-use Rattle.store.specs.Opened.{Opened, below_at}
+use Rattle.store.specs.Opened.{below_at}
 use Rattle.order.specs.Refs.{Refers, seen_at, rising, ordered_of}
 use Rattle.order.proofs.Labels.{rising-keep, gather-keep}
 
@@ -51,7 +51,7 @@ pub record Filled (s : ℕ) (b : List ℕ) (p : List Step) (found₀ found : Lis
 pub fill_start : (s : ℕ) (b : List ℕ) (p : List Step) (found : List ℕ) → Filled s b p found found 0 0
 fill_start s b p found = record { size = refl; few = omega arith; most = omega arith; is = refl }
 
-module _ {s : ℕ} {b : List ℕ} {p : List Step} {found₀ found : List ℕ} {k n : ℕ} (inv : Filled s b p found₀ found k n) (h : n ≤ s) {r : Bool} (e : r ≡ below_at s b p n) where
+module _ {s : ℕ} {b : List ℕ} {p : List Step} {found₀ found : List ℕ} {k n : ℕ} (inv : Filled s b p found₀ found k n) (h : n < s + 1) {r : Bool} (e : r ≡ below_at s b p n) where
   next-range : keep (below_at s b p) (range (λ m. m) 0 (n + 1)) ≡ keep (below_at s b p) (range (λ m. m) 0 n) ++ keep (below_at s b p) (n ∷ [])
   next-range =
       let j : n + 1 ≡ suc n = omega arith in
@@ -97,10 +97,8 @@ module _ {s : ℕ} {b : List ℕ} {p : List Step} {found₀ found : List ℕ} {k
       }
 
 -- there is room for one more
-pub fill-room : {s : ℕ} {b : List ℕ} {p : List Step} {found₀ found : List ℕ} {k n : ℕ} → Opened b s × (32 ≤ length found₀) → Filled s b p found₀ found k n → n ≤ s → k < length found
-fill-room {s} o inv h =
-    let u : s < 32 = label-lt s o.0.label in
-    omega (arith, inv.few, inv.size, o.1)
+pub fill-room : {s : ℕ} {b : List ℕ} {p : List Step} {found₀ found : List ℕ} {k n : ℕ} → T (is_label s) → Filled s b p found₀ found k n → n < s + 1 → k < 32
+fill-room {s} o inv h = omega (arith, label-lt s o, inv.few)
 
 -- behind the subject none is occupied
 keep-none : (s : ℕ) (b : List ℕ) (p : List Step) (i c : ℕ) → s < i → keep (below_at s b p) (range (λ m. m) i c) ≡ []
@@ -112,9 +110,9 @@ keep-none s b p i (suc c) h =
     let q : dominates s i ≡ false = is_false (dominates s i) t in
     rw q (keep-none s b p (suc i) c (omega arith)))
 
-pub fill_end : {s : ℕ} {b : List ℕ} {p : List Step} {found₀ found : List ℕ} {k n : ℕ} → Opened b s → Filled s b p found₀ found k n → s < n → (take k found ≡ keep (below_at s b p) labels) × (k ≤ 32)
+pub fill_end : {s : ℕ} {b : List ℕ} {p : List Step} {found₀ found : List ℕ} {k n : ℕ} → T (is_label s) → Filled s b p found₀ found k n → s + 1 ≤ n → (take k found ≡ keep (below_at s b p) labels) × (k ≤ 32)
 fill_end {s} {b} {p} {found₀} {found} {k} {n} o inv h =
-    let u : s < 32 = label-lt s o.label in
+    let u : s < 32 = label-lt s o in
     let m : n ≤ s + 1 = inv.most in
     let f : k ≤ n = inv.few in (
       inv.is
@@ -128,16 +126,10 @@ fill_end {s} {b} {p} {found₀} {found} {k} {n} o inv h =
 
 -- ---- what was found
 
-module _ (s : ℕ) (b : List ℕ) (p : List Step) (found : List ℕ) {r : ℕ} (e : take r found ≡ keep (below_at s b p) labels) (f : r ≤ 32) where
-  found-is : take (r - 0) found ≡ keep (below_at s b p) labels
-  found-is = let z : r - 0 ≡ r = omega arith in ap (λ (k : ℕ). take k found) z ∙ e
-
-  pub found-rising : T (rising (take (r - 0) found))
-  found-rising = subst (λ (l : List ℕ). T (rising l)) (sym found-is) (rising-keep (below_at s b p) labels tt)
-
-  pub found-few : length (take (r - 0) found) ≤ 32
-  found-few = let l = length-take (r - 0) found in omega arith
+module _ (s : ℕ) (b : List ℕ) (p : List Step) {found : List ℕ} (e : found ≡ keep (below_at s b p) labels) where
+  pub found-rising : T (rising found)
+  found-rising = rw e (rising-keep (below_at s b p) labels tt)
 
   -- the elements of the labels found are all that the subject sees
-  pub found_all : {rs : List ℕ} → Refers s b rs (ordered_of s b p (take (r - 0) found)) → Refers s b rs (seen_below s (open_model b) p)
-  found_all q = record { valid = q.valid; named = q.named ∙ ap (ordered_of s b p) found-is ∙ occupied-all s b p }
+  pub found_all : {rs : List ℕ} → Refers s b rs (ordered_of s b p found) → Refers s b rs (seen_below s (open_model b) p)
+  found_all q = record { valid = q.valid; named = q.named ∙ ap (ordered_of s b p) e ∙ occupied-all s b p }

@@ -3,24 +3,21 @@ ghost use Rattle.std.specs.Prelude.{◌≡◌, ◌≤◌, length, take};
 ghost use Rattle.model.specs.Lists.{keep};
 ghost use Rattle.model.specs.Label.{labels};
 ghost use Rattle.model.specs.Path.{steps_of};
-ghost use Rattle.store.specs.Opened.{Opened, below_at};
+ghost use Rattle.store.specs.Opened.{below_at};
 
-// The occupied labels, ascending: how many. None of them is greater than the subject.
-pub fn occupied(store: &[u8], subject: u8, path: &[u8], found: &mut [u8]) -> usize
-    requires { Opened store.now subject × (32 ≤ length found.old) }
-    ensures found_after { take result found.new ≡ keep (below_at subject store.now (steps_of path.now)) labels }
-    ensures upper_bound { result ≤ 32 }
+use store::Reader;
+
+// The occupied labels, ascending, in the array lent for them. None of them is greater than the subject.
+pub fn occupied<'f>(reader: &Reader<'_>, path: &[u8], found: &'f mut [u8; 32]) -> &'f [u8]
+    ensures found { result.now ≡ keep (below_at reader.now.subject reader.now.store.now (steps_of path.now)) labels }
+    ensures upper_bound { length result.now ≤ 32 }
 {
     let mut k: usize = 0;
-    let mut n: u8 = 0;
-    while n <= subject {
-        if store::holds_below(store, subject, n, path) {
+    for n in 0..reader.subject + 1 {
+        if reader.holds_below(n, path) {
             found[k] = n;
             k += 1;
-            n += 1;
-            continue;
         }
-        n += 1;
     }
-    k
+    &found[..k]
 }

@@ -12,7 +12,7 @@ use Rattle.model.specs.Label.{is_label}
 use Rattle.model.specs.Path.{Step, is_prefix, parent, ends_in, valid_path}
 use Rattle.model.specs.Element.{valid_element, closed}
 use Rattle.model.specs.Sets.{ascending}
-use Rattle.model.specs.Slot.{slot_size, depth, step_at, read_path, read_slot, unused_zero}
+use Rattle.model.specs.Slot.{depth, step_at, read_path, read_slot, unused_zero}
 use Rattle.model.specs.Partition.{slots_at, partition_size, count, slot_start, slot_at, slots, read_partition, well_formed_by}
 use Rattle.model.proofs.Bools.{and_l, and_r, both, crossed, is_true, is_false, same_test}
 use Rattle.model.proofs.Partitions.{WellFormed, well-formed, yes-well-formed}
@@ -22,7 +22,6 @@ use Rattle.model.proofs.Walks.{rest, rest_more, rest_end}
 use Rattle.path.specs.Common.{common, is_before_by, ComparedBy}
 use Rattle.path.proofs.Steps.{ends-range, parent-range}
 use Rattle.path.proofs.Common.{common-first, common-parent, before-some}
-use Rattle.slot.specs.Slot.{Readable}
 use Rattle.slot_valid.specs.Valid.{valid_slot}
 use Rattle.slot.proofs.Reading.{length-path}
 use Rattle.partition.specs.Linked.{may_follow, linked, good_slot, good_slots, path_before}
@@ -180,23 +179,23 @@ root-follow {k} good n (a ∷ q) h = rw (before-some k good a q) (go (parent (a 
     go (c ∷ r) = or-false (not (ends_in n (c ∷ r)))
 
 -- slot x of the partition, found valid or not
-module _ (n : ℕ) {x b : List ℕ} {v : Bool} (e : (x ≡ b) × (length x ≡ slot_size)) (f : v ≡ valid_slot n x) where
+module _ (n : ℕ) {x b : List ℕ} {v : Bool} (e : x ≡ b) (f : v ≡ valid_slot n x) where
   -- a slot that is not valid is not good
   pub slot-bad : (k : Step → List ℕ) (p : List Step) → v ≡ false → false ≡ good_slot k n p b
   unfolding good_slot
-  slot-bad k p t = let q : valid_slot n b ≡ false = ap (valid_slot n) (sym e.0) ∙ sym f ∙ t in rw q
+  slot-bad k p t = let q : valid_slot n b ≡ false = ap (valid_slot n) (sym e) ∙ sym f ∙ t in rw q
 
   module _ (yes : v ≡ true) where
     valid : T (valid_slot n x)
     valid = truly v (valid_slot n x) f yes
 
     -- a valid slot can be read
-    pub slot-readable : Readable x
-    slot-readable = record { size = e.1; steps = valid-steps n x valid }
+    pub slot-few : depth x ≤ 6
+    slot-few = valid-steps n x valid
 
     goes : (k : Step → List ℕ) (p : List Step) → good_slot k n p b ≡ may_follow k n p (read_path x)
     unfolding good_slot
-    goes k p = rw (← e.0, is_true (valid_slot n x) valid)
+    goes k p = rw (← e, is_true (valid_slot n x) valid)
 
     -- the first slot is good where its parent does not end in n
     pub first_slot : {k : Step → List ℕ} → Keyed k → (c : List ℕ) {i : ℕ} {r : Bool} → i ≡ 0 → r ≡ ends_in n (parent (read_path x))
@@ -205,17 +204,17 @@ module _ (n : ℕ) {x b : List ℕ} {v : Bool} (e : (x ≡ b) × (length x ≡ s
         ap not g ∙ sym (root-follow good n (read_path x) (valid-some n x valid)) ∙ sym (ap (λ (j : ℕ). good_slot k n (path_before c j) b) h ∙ goes k [])
 
     -- a later slot is good where it may follow the slot before
-    pub later-slot : (k : Step → List ℕ) (c : List ℕ) {i : ℕ} {y : List ℕ} {r : Bool} → (i ≡ 0 → ⊥) → (y ≡ slot_at c (i - 1)) × (length y ≡ slot_size)
+    pub later-slot : (k : Step → List ℕ) (c : List ℕ) {i : ℕ} {y : List ℕ} {r : Bool} → (i ≡ 0 → ⊥) → y ≡ slot_at c (i - 1)
         → r ≡ may_follow k n (read_path y) (read_path x) → r ≡ good_slot k n (path_before c i) b
-    later-slot k c {i} {y} {r} h d g = go (i - 1) (omega arith) d.0
+    later-slot k c {i} {y} {r} h d g = go (i - 1) (omega arith) d
       where
         go : (j : ℕ) → i ≡ suc j → y ≡ slot_at c j → r ≡ good_slot k n (path_before c i) b
         go j q z = g ∙ ap (λ (l : List ℕ). may_follow k n (read_path l) (read_path x)) z ∙ sym (ap (λ (m : ℕ). good_slot k n (path_before c m) b) q ∙ goes k (read_path (slot_at c j)))
 
 -- a slot that is read is one of the partition, with at most six steps
-pub before-readable : (c : List ℕ) {i : ℕ} {y : List ℕ} → (i ≡ 0 → ⊥) → (y ≡ slot_at c (i - 1)) × (length y ≡ slot_size)
-    → ((k : ℕ) → k + 1 ≡ i → depth (slot_at c k) ≤ 6) → Readable y
-before-readable c {i} h d f = record { size = d.1; steps = rw d.0 (f (i - 1) (omega arith)) }
+pub before-few : (c : List ℕ) {i : ℕ} {y : List ℕ} → (i ≡ 0 → ⊥) → y ≡ slot_at c (i - 1)
+    → ((k : ℕ) → k + 1 ≡ i → depth (slot_at c k) ≤ 6) → depth y ≤ 6
+before-few c {i} h d f = rw d (f (i - 1) (omega arith))
 
 -- ---- the loop over the slots
 

@@ -2,6 +2,7 @@
 use mathlib.Core.Path.{◌≡◌, refl, sym, ap, ap₂, ◌∙◌, subst}
 use mathlib.Core.Bool.{Bool, true, false, not, cond, ◌&&◌}
 use mathlib.Core.List.{List, [], ◌∷◌, ◌++◌, map}
+use Rattle.std.specs.Prelude.{Result, Ok, Err, is_ok}
 use Prim.Native.Nat.{ℕ, zero, suc, ◌+◌, ◌-◌, ◌/◌, ◌≤◌, ◌<◌}
 use native.Mathlib.Omega.{arith}
 use borrow.Author.Tests.{eq-eqb, ne_eqb, le-leb, lt-leb, lt-ltb}
@@ -14,7 +15,7 @@ use mir.Facts.{T_not, leb_yes, leb_no}
 use Rattle.model.specs.Lists.{all, any, keep, range, ◌∈◌}
 use Rattle.model.specs.Path.{Step, same_path, is_prefix, steps_of, key}
 use Rattle.model.specs.Element.{Element, rank, valid_element, contains, remove}
-use Rattle.model.specs.Slot.{slot_size, depth, read_path, read_slot}
+use Rattle.model.specs.Slot.{depth, read_path, read_slot}
 use Rattle.model.specs.Partition.{layout, count, slot_at, slots, read_partition}
 use Rattle.model.specs.Call.{extending}
 use Rattle.model.specs.Sets.{sorted, ahead}
@@ -27,9 +28,8 @@ use Rattle.model.proofs.Walks.{rest, rest_more, rest_end, all-range, in-range}
 use Rattle.path.specs.Common.{common, is_before, Compared}
 use Rattle.path.proofs.Steps.{length-steps, root-steps}
 use Rattle.path.proofs.Common.{common-first, common-prefix, common-same-path, common-turned}
-use Rattle.slot.specs.Slot.{Readable}
 use Rattle.slot.proofs.Reading.{length-path}
-use Rattle.partition.specs.Place.{Formed, place_of, Found}
+use Rattle.partition.specs.Place.{Formed, InOrder, place_of, place_in, Found}
 use Rattle.partition.proofs.Placing.{place-within, place_after, leading, leading-within, count-place, remove-place, keep-place, contains-after, contains-here}
 
 -- ---- a well-formed partition
@@ -80,9 +80,9 @@ formed-valid {b} f i h = valid-at f.label b (facts f).valid i h
 pub formed-slot : {b : List ℕ} (f : Formed b) (i : ℕ) → i < count b → depth (slot_at b i) ≤ 6
 formed-slot {b} f i h = valid-slot f.label b (facts f).valid i h
 
--- so can what a read of slot i gives
-pub formed-readable : {b x : List ℕ} (f : Formed b) {i c : ℕ} → (c ≡ count b) × (c < 256) → i < c → (x ≡ slot_at b i) × (length x ≡ slot_size) → Readable x
-formed-readable {b} f {i} e h d = record { size = d.1; steps = rw d.0 (formed-slot f i (omega arith)) }
+-- so a path can be looked for in it
+pub formed-order : {b : List ℕ} → Formed b → InOrder b
+formed-order f = record { size = (facts f).size; few = (facts f).few; deep = formed-slot f; order = formed-sorted f }
 
 -- ---- the same path
 
@@ -100,6 +100,16 @@ module _ (x p : List ℕ) {s : ℕ} (m : s ≡ common (read_path x) (steps_of p)
   pub same-shared : s ≡ length p / 3 → {d : ℕ} → (d ≡ depth x) × (d < 256) → eqb d (length p / 3) ≡ same_path (steps_of p) (read_path x)
   same-shared h e = ap (λ (k : ℕ). eqb k (length p / 3)) e.0 ∙ sym (by_parts true (eq-eqb s (length p / 3) h))
 
+-- ---- what a search answers
+
+-- a path that stands there
+pub found-ok : {b : List ℕ} {p : List Step} {r : Result ℕ ℕ} {at : ℕ} → r ≡ Ok at → Found b p (place_in r) (is_ok r) → Found b p at true
+found-ok e f = rw e at f
+
+-- and one that does not
+pub found-err : {b : List ℕ} {p : List Step} {r : Result ℕ ℕ} {at : ℕ} → r ≡ Err at → Found b p (place_in r) (is_ok r) → Found b p at false
+found-err e f = rw e at f
+
 -- ---- the search
 
 -- the elements before slot i come before the path
@@ -110,25 +120,25 @@ pub record Finding (b : List ℕ) (p : List Step) (c i : ℕ) : Type 0 where
   pub has : contains (read_partition b) p ≡ contains (rest (element_at b) c i) p
 
 -- so it is at the first slot
-pub find-start : {b : List ℕ} (f : Formed b) (p : List Step) {c : ℕ} → (c ≡ count b) × (c < 256) → Finding b p c 0
+pub find-start : {b : List ℕ} (f : InOrder b) (p : List Step) {c : ℕ} → (c ≡ count b) × (c ≤ 32) → Finding b p c 0
 find-start {b} f p {c} e =
     let z : count b ≡ c - 0 = omega (arith, e.0) in
     let l : read_partition b ≡ rest (element_at b) c 0 = elements-range b ∙ ap (range (element_at b) 0) z in
     record {
       within = omega arith;
-      order = rw (← l) (formed-sorted f);
+      order = rw (← l) f.order;
       place = ap (place_of p) l ∙ omega arith;
       has = ap (λ es. contains es p) l;
     }
 
 module _ {b : List ℕ} {p : List Step} {c i : ℕ} (inv : Finding b p c i) where
   -- where no slot is left, the path is not there
-  pub find-end : c ≤ i → Found b p i false
+  pub find-end : c ≤ i → Found b p c false
   unfolding contains
   find-end h =
       let l : rest (element_at b) c i ≡ [] = rest_end (element_at b) c i h in
       record {
-        at-is = sym (inv.place ∙ rw l (omega arith));
+        at-is = sym (inv.place ∙ rw l (omega (arith, inv.within)));
         found-is = sym (inv.has ∙ rw l);
       }
 
@@ -160,10 +170,10 @@ module _ {b : List ℕ} {p : List Step} {c i : ℕ} (inv : Finding b p c i) wher
         absurd (omega arith))
 
     -- slot i, read as x, compared with the lent path q
-    module _ {x : List ℕ} (d : (x ≡ slot_at b i) × (length x ≡ slot_size)) {s : ℕ} {t : Bool} (m : Compared (read_path x) p s t) where
+    module _ {x : List ℕ} (d : x ≡ slot_at b i) {s : ℕ} {t : Bool} (m : Compared (read_path x) p s t) where
       is-before : t ≡ is_before (element_at b i).path p
       unfolding read_slot
-      is-before = m.before-is ∙ ap (λ (l : List ℕ). is_before (read_path l) p) d.0
+      is-before = m.before-is ∙ ap (λ (l : List ℕ). is_before (read_path l) p) d
 
       pub find-next : t ≡ true → Finding b p c (i + 1)
       find-next u = find-step (sym is-before ∙ u)
@@ -177,7 +187,7 @@ module _ {b : List ℕ} {p : List Step} {c i : ℕ} (inv : Finding b p c i) wher
             at-is = sym (inv.place ∙ ap (λ es. i + place_of p es) here ∙ rw y (omega arith));
             found-is =
                 g
-                ∙ ap (λ (l : List ℕ). same_path p (read_path l)) d.0
+                ∙ ap (λ (l : List ℕ). same_path p (read_path l)) d
                 ∙ sym (inv.has ∙ ap (λ es. contains es p) here ∙ contains-here p (element_at b i) (rest (element_at b) c (i + 1)) ordered (rw y tt));
           }
 
@@ -191,9 +201,9 @@ elements-from b k h =
 
 -- ---- a search that begins behind a slot
 
-module _ {b : List ℕ} (f : Formed b) (p : List Step) where
+module _ {b : List ℕ} (f : InOrder b) (p : List Step) where
   -- so it is at each slot up to the path's place
-  pub find_at : {c : ℕ} → (c ≡ count b) × (c < 256) → (i : ℕ) → i ≤ place_of p (read_partition b) → Finding b p c i
+  pub find_at : {c : ℕ} → (c ≡ count b) × (c ≤ 32) → (i : ℕ) → i ≤ place_of p (read_partition b) → Finding b p c i
   find_at e zero h = find-start f p e
   find_at {c} e (suc i) h =
       let inv : Finding b p c i = find_at e i (omega arith) in
@@ -210,14 +220,14 @@ module _ {b : List ℕ} (f : Formed b) (p : List Step) where
       let m : element_at b k ∈ drop (place_of p (read_partition b)) (read_partition b) =
       rw (elements-from b (place_of p (read_partition b)) (place-count p b))
       (in-range (element_at b) (place_of p (read_partition b)) (count b - place_of p (read_partition b)) k (omega arith) (omega (arith, place-count p b))) in
-      absurd (T_not (is_before (element_at b k).path p) t (place_after p (read_partition b) (formed-sorted f) (element_at b k) m)))
+      absurd (T_not (is_before (element_at b k).path p) t (place_after p (read_partition b) f.order (element_at b k) m)))
 
   -- slot k, read as x, compared with the path: a search may begin behind it, if it comes before the path
-  pub behind-start : {k : ℕ} → k < count b → {x : List ℕ} → (x ≡ slot_at b k) × (length x ≡ slot_size) → {s : ℕ} {t : Bool} → Compared (read_path x) p s t
+  pub behind-start : {k : ℕ} → k < count b → {x : List ℕ} → x ≡ slot_at b k → {s : ℕ} {t : Bool} → Compared (read_path x) p s t
       → t ≡ true → k + 1 ≤ place_of p (read_partition b)
   unfolding read_slot
   behind-start {k} h d {s} {t} m u =
-      place-behind k h (subst (λ (y : Bool). T y) (sym u ∙ m.before-is ∙ ap (λ (l : List ℕ). is_before (read_path l) p) d.0) tt)
+      place-behind k h (subst (λ (y : Bool). T y) (sym u ∙ m.before-is ∙ ap (λ (l : List ℕ). is_before (read_path l) p) d) tt)
 
 -- ---- the elements at a path's place that have it or extend it
 
@@ -228,14 +238,14 @@ pub record Running (b : List ℕ) (p : List Step) (at c i : ℕ) : Type 0 where
   pub same : extending p (read_partition b) ≡ i - at + leading p (rest (element_at b) c i)
 
 -- so it is at the path's place
-pub run-start : {b : List ℕ} (f : Formed b) (p : List Step) {at c : ℕ} → (c ≡ count b) × (c < 256) → at ≡ place_of p (read_partition b) → Running b p at c at
+pub run-start : {b : List ℕ} (f : InOrder b) (p : List Step) {at c : ℕ} → (c ≡ count b) × (c ≤ 32) → at ≡ place_of p (read_partition b) → Running b p at c at
 run-start {b} f p {at} {c} e h =
     let w : at ≤ count b = omega (arith, place-count p b) in
     record {
       from = omega arith;
       within = omega (arith, e.0);
       same =
-          count-place p (read_partition b) (formed-sorted f)
+          count-place p (read_partition b) f.order
           ∙ ap (λ (m : ℕ). leading p (drop m (read_partition b))) (sym h)
           ∙ ap (leading p) (elements-from b at w ∙ ap (λ (m : ℕ). rest (element_at b) m at) (sym e.0))
           ∙ omega arith;
@@ -243,17 +253,17 @@ run-start {b} f p {at} {c} e h =
 
 module _ (q : List ℕ) {b : List ℕ} {at c i : ℕ} (inv : Running b (steps_of q) at c i) where
   -- where no slot is left, these are all
-  pub run_end : c ≤ i → i - at ≡ extending (steps_of q) (read_partition b)
-  run_end h = sym (inv.same ∙ ap (λ es. i - at + leading (steps_of q) es) (rest_end (element_at b) c i h) ∙ omega arith)
+  pub run_end : c ≤ i → c - at ≡ extending (steps_of q) (read_partition b)
+  run_end h = sym (inv.same ∙ ap (λ es. i - at + leading (steps_of q) es) (rest_end (element_at b) c i h) ∙ omega (arith, inv.within))
 
-  module _ (h : i < c) {x : List ℕ} (d : (x ≡ slot_at b i) × (length x ≡ slot_size)) {s : ℕ} {t : Bool} (m : Compared (read_path x) (steps_of q) s t) where
+  module _ (h : i < c) {x : List ℕ} (d : x ≡ slot_at b i) {s : ℕ} {t : Bool} (m : Compared (read_path x) (steps_of q) s t) where
     here-leads : (l : Bool) → eqb s (length q / 3) ≡ l → leading (steps_of q) (rest (element_at b) c i) ≡ cond l (suc (leading (steps_of q) (rest (element_at b) c (i + 1)))) 0
     unfolding read_slot
     here-leads l e =
         ap (leading (steps_of q)) (rest_more (element_at b) c i h)
         ∙ ap (λ (r : Bool). cond r (suc (leading (steps_of q) (rest (element_at b) c (i + 1)))) 0)
         (common-prefix (steps_of q) (read_path (slot_at b i))
-        ∙ ap₂ eqb (common-turned (steps_of q) (read_path (slot_at b i)) ∙ sym (m.shared-is ∙ ap (λ (y : List ℕ). common (read_path y) (steps_of q)) d.0)) (length-steps q)
+        ∙ ap₂ eqb (common-turned (steps_of q) (read_path (slot_at b i)) ∙ sym (m.shared-is ∙ ap (λ (y : List ℕ). common (read_path y) (steps_of q)) d)) (length-steps q)
         ∙ e)
 
     -- where slot i does not share the whole path, these are all
@@ -316,10 +326,10 @@ module _ (q : List ℕ) {b : List ℕ} {at c : ℕ} (inv : Running b (steps_of q
 
   -- where the place is behind all elements, none extends the path
   pub below_end : c ≤ at → false ≡ any (λ e. is_prefix (steps_of q) e.path) (read_partition b)
-  below_end h = none-there (run_end q inv h)
+  below_end h = none-there (omega (arith, run_end q inv h))
 
   -- else the one at the place tells by the steps that it shares
-  pub below-here : at < c → {x : List ℕ} → (x ≡ slot_at b at) × (length x ≡ slot_size) → {s : ℕ} {t : Bool} → Compared (read_path x) (steps_of q) s t
+  pub below-here : at < c → {x : List ℕ} → x ≡ slot_at b at → {s : ℕ} {t : Bool} → Compared (read_path x) (steps_of q) s t
       → leb (length q / 3) s ≡ any (λ e. is_prefix (steps_of q) e.path) (read_partition b)
   below-here h d {s} m = elim (dec_le (length q / 3) s) [
     | yes k ↦
@@ -332,7 +342,7 @@ module _ (q : List ℕ) {b : List ℕ} {at c : ℕ} (inv : Running b (steps_of q
   ]
 
 -- no element is below a path where there is none, and any is below the root
-module _ (q b : List ℕ) {c : ℕ} (e : (c ≡ count b) × (c < 256)) where
+module _ (q b : List ℕ) {c : ℕ} (e : (c ≡ count b) × (c ≤ 32)) where
   -- an empty partition has none
   pub none-held : c ≡ 0 → false ≡ any (λ d. is_prefix (steps_of q) d.path) (read_partition b)
   none-held z =

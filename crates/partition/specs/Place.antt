@@ -1,9 +1,11 @@
 -- Where a path stands in a set of elements, or would stand.
-use Rattle.std.specs.Prelude.{◌≡◌, Bool, not, cond, List, [], ◌∷◌, ℕ, zero, suc, ◌<◌, T}
+use Rattle.std.specs.Prelude.{◌≡◌, Bool, not, cond, List, [], ◌∷◌, ℕ, zero, suc, ◌<◌, ◌≤◌, length, T, Result, Ok, Err}
+use Rattle.model.specs.Sets.{sorted}
 use Rattle.model.specs.Path.{Step}
 use Rattle.model.specs.Value.{Content}
-use Rattle.model.specs.Element.{Element, contains}
-use Rattle.model.specs.Partition.{count, read_partition, well_formed}
+use Rattle.model.specs.Element.{Element, rank, contains}
+use Rattle.model.specs.Slot.{depth}
+use Rattle.model.specs.Partition.{partition_size, count, slot_at, read_partition, well_formed}
 use Rattle.path.specs.Common.{is_before}
 
 -- a well-formed partition, of some label
@@ -11,10 +13,22 @@ pub record Formed (b : List ℕ) : Type 0 where
   pub label : ℕ
   pub is : T (well_formed label b)
 
+-- a partition whose used slots can be read and stand in path order, as those of every well-formed one
+pub record InOrder (b : List ℕ) : Type 0 where
+  pub size : length b ≡ partition_size
+  pub few : count b ≤ 32
+  pub deep : (i : ℕ) → i < count b → depth (slot_at b i) ≤ 6
+  pub order : T (sorted rank (read_partition b))
+
 -- how many elements come before the path
 abbrev pub place_of : List Step → List Element → ℕ
 place_of p [] = 0
 place_of p (e ∷ es) = cond (is_before e.path p) (suc (place_of p es)) 0
+
+-- the place that a search answers, whether the path stands there (Ok) or would stand there (Err)
+abbrev pub place_in : Result ℕ ℕ → ℕ
+place_in (Ok i) = i
+place_in (Err i) = i
 
 -- what a search for the path answers: where it stands or would stand, and whether it is there
 pub record Found (b : List ℕ) (p : List Step) (at : ℕ) (found : Bool) : Type 0 where

@@ -87,8 +87,8 @@ module _ {k : Step → List ℕ} (good : Keyed k) {f g : ℕ → Step} {x y i : 
   ]
 
   -- at the end of one of them
-  pub share-end : min x y ≤ i → ComparedBy k (range f 0 x) (range g 0 y) i (ltb x y)
-  share-end h = elim (dec_lt i x) [
+  all-shared : min x y ≤ i → ComparedBy k (range f 0 x) (range g 0 y) i (ltb x y)
+  all-shared h = elim (dec_lt i x) [
     | yes l ↦
         let j : y ≤ i = omega (arith, inv.within-y) in
         let w : i ≤ y = inv.within-y in
@@ -108,6 +108,13 @@ module _ {k : Step → List ℕ} (good : Keyed k) {f g : ℕ → Step} {x y i : 
           before-is = sym (inv.order ∙ ap (λ (p : List Step). is_before_by k p (rest g y i)) ef ∙ nothing_left z);
         }
   ]
+
+  -- so many steps are shared
+  pub share-end : {n : ℕ} → n ≡ min x y → n ≤ i → ComparedBy k (range f 0 x) (range g 0 y) n (ltb x y)
+  share-end {n} d h =
+      let e : i ≡ n = omega (arith, inv.within-x, inv.within-y) in
+      let s : ComparedBy k (range f 0 x) (range g 0 y) i (ltb x y) = all-shared (omega arith) in
+      rw e at s
 
   -- at steps that were found the same or not
   module _ (hx : i < x) (hy : i < y) {r : Bool} (told : r ≡ same_step (f i) (g i)) where

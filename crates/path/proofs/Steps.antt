@@ -14,14 +14,14 @@ use mir.Facts.{eqb_yes, ltb_yes, leb_yes}
 use Rattle.model.specs.Lists.{all, range, is_byte}
 use Rattle.model.specs.Sets.{precedes}
 use Rattle.model.specs.Label.{is_label, dominates}
-use Rattle.model.specs.Path.{Step, same_step, parent, last_step, ends_in, valid_step, valid_path, labels_ascend, steps_of, key, former_key}
+use Rattle.model.specs.Path.{Step, same_step, parent, last_step, ends_in, valid_step, valid_path, labels_ascend, steps_of}
 use Rattle.model.specs.Rows.{good_path}
 use Rattle.model.proofs.Bools.{and_l, and_r, both, same_test}
 use Rattle.model.proofs.Lists.{length-range, get_d_front, drop-next}
 use Rattle.model.proofs.Dominance.{dominates-upper, bottom-label}
-use Rattle.model.proofs.Paths.{Keyed, key-keyed, former-keyed}
+use Rattle.model.proofs.Paths.{Keyed}
 use Rattle.model.proofs.Walks.{rest, rest_more, rest_end}
-use Rattle.path.specs.Steps.{step_with, step_of, lent_step, may_follow, all_follow, key_by, word_from, in_digits, KeyOf}
+use Rattle.path.specs.Steps.{step_with, step_of, lent_step, may_follow, all_follow, word_from, in_digits, KeyOf}
 
 -- ---- a lent path as a range
 
@@ -199,18 +199,9 @@ lists-before w (d ∷ x) (e ∷ y) l s t = go (lists-before (256 * w + d) x y m 
 pub word-before : {k : Step → List ℕ} → Keyed k → (a b : Step) {v w : ℕ} → KeyOf k a v → KeyOf k b w → precedes (k a) (k b) ≡ ltb v w
 word-before {k} good a b x y = lists-before 0 (k a) (k b) (good.width a b) x.digits y.digits ∙ ap₂ ltb (sym x.word) (sym y.word)
 
--- the keys of both orders are keys
-pub keyed : (former : Bool) → Keyed (key_by former)
-keyed true = former-keyed
-keyed false = key-keyed
-
--- the key of a step whose name and label were read, in the order that is asked for
-module _ {former : Bool} (a : Step) {n l w : ℕ} (name : n ≡ a.name) (label : l ≡ a.label) where
-  pub former-key-of : former ≡ true → KeyOf former_key (step_with n l) w → KeyOf (key_by former) a w
-  former-key-of e x = rw (e, ← name, ← label) x
-
-  pub path-key-of : former ≡ false → KeyOf key (step_with n l) w → KeyOf (key_by former) a w
-  path-key-of e x = rw (e, ← name, ← label) x
+-- the key of a step whose name and label were read
+pub key-of : {k : Step → List ℕ} (a : Step) {n l w : ℕ} → n ≡ a.name → l ≡ a.label → KeyOf k (step_with n l) w → KeyOf k a w
+key-of a name label x = rw (← name, ← label) x
 
 -- two steps whose names were read: they differ where the names do
 module _ (a b : Step) {m n : ℕ} (e : m ≡ a.name) (f : n ≡ b.name) where

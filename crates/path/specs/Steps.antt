@@ -1,8 +1,8 @@
 -- The steps of a lent path, step by step, and their keys as numbers.
-use Rattle.std.specs.Prelude.{◌≡◌, Bool, true, false, ◌&&◌, List, [], ◌∷◌, ℕ, ◌+◌, ◌*◌, ◌/◌, ◌%◌, get_or, set, T}
+use Rattle.std.specs.Prelude.{◌≡◌, Bool, true, ◌&&◌, List, [], ◌∷◌, ℕ, ◌+◌, ◌*◌, ◌/◌, ◌%◌, get_or, set, T}
 use Rattle.model.specs.Lists.{all, is_byte}
 use Rattle.model.specs.Label.{dominates}
-use Rattle.model.specs.Path.{Step, valid_step, key, former_key}
+use Rattle.model.specs.Path.{Step, valid_step}
 
 -- the step with a name and a label
 abbrev pub step_with : ℕ → ℕ → Step
@@ -26,11 +26,6 @@ all_follow l [] = true
 all_follow l (a ∷ p) = may_follow l a && all_follow a.label p
 
 -- ---- keys as numbers
-
--- the key of an order: that of before 7/14, or that of path order
-abbrev pub key_by : Bool → Step → List ℕ
-key_by true = former_key
-key_by false = key
 
 -- numbers read as digits of base 256 behind the number w, the highest first
 abbrev pub word_from : ℕ → List ℕ → ℕ

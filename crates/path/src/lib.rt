@@ -1,34 +1,96 @@
 // Paths that a caller lends, three bytes a step, the name lowest byte first, then the label; and the keys by which steps are ordered.
 #![tactic(auto)]
 
-ghost use Rattle.std.specs.Prelude.{◌≡◌, ◌+◌, ◌-◌, ◌*◌, ◌≤◌, ◌<◌, length, T};
-ghost use Rattle.model.specs.Path.{ends_in, steps_of, key, former_key};
+ghost use Rattle.std.specs.Prelude.{◌≡◌, List, ℕ, ◌+◌, ◌*◌, ◌/◌, ◌≤◌, ◌<◌, length, T};
+ghost use Rattle.model.specs.Path.{Step, ends_in, steps_of, key, former_key};
 ghost use Rattle.model.specs.Rows.{good_path};
+ghost use Rattle.model.proofs.Paths.{Keyed, key-keyed, former-keyed};
 ghost use Rattle.path.specs.Steps.{step_with, step_of, lent_step, may_follow, all_follow, KeyOf, put_step};
 
-// x less y, or 0 where y is greater.
-fn less(x: u32, y: u32) -> u32
-    ensures { result ≡ x - y }
-{
-    if y < x { x - y } else { 0 }
+// An order of steps, by keys.
+pub trait StepOrder {
+    ghost key: { Step → List ℕ };
+
+    // The key of a step, as one number.
+    fn step_key(name: u32, label: u8) -> u32
+        requires { name < 65536 }
+        ensures { KeyOf key (step_with name label) result };
+
+    // What the proofs need of every key: different steps have different keys, and all keys have one length.
+    ghost keyed: { Keyed key };
 }
 
-// The key of a step in path order: the name, then the level from high to low, then the label. No other code knows the order.
-pub fn step_key(name: u32, label: u8) -> u32
-    requires { name < 65536 }
-    ensures { KeyOf key (step_with name label) result }
-{
-    let l = octets::wide(label);
-    let down = less(3, l / 8);
-    l + 256 * down + 65536 * name
+// Path order: the name, then the level from high to low, then the label. No other code knows the order.
+pub struct PathOrder;
+
+impl StepOrder for PathOrder {
+    ghost key = { key };
+
+    ghost keyed = { key-keyed };
+
+    fn step_key(name: u32, label: u8) -> u32 {
+        let l = u32::from(label);
+        let down = 3u32.saturating_sub(l / 8);
+        l + 256 * down + 65536 * name
+    }
 }
 
-// The key of a step in the order of before 7/14: the name, then the label.
-pub fn former_key(name: u32, label: u8) -> u32
-    requires { name < 65536 }
-    ensures { KeyOf former_key (step_with name label) result }
-{
-    octets::wide(label) + 256 * name
+// The order of before 7/14: the name, then the label.
+pub struct FormerOrder;
+
+impl StepOrder for FormerOrder {
+    ghost key = { former_key };
+
+    ghost keyed = { former-keyed };
+
+    fn step_key(name: u32, label: u8) -> u32 {
+        u32::from(label) + 256 * name
+    }
+}
+
+// What has steps that can be read one by one: a lent path, or the path in a slot.
+pub trait HasSteps: Copy {
+    ghost number: { Self → ℕ };
+
+    ghost step: { Self → ℕ → Step };
+
+    // The number of steps.
+    fn count(self) -> usize
+        ensures { result ≡ number self };
+
+    // The name of step i.
+    fn name(self, i: usize) -> u32
+        requires { i < number self }
+        ensures { (result ≡ (step self i).name) × (result < 65536) };
+
+    // The label of step i.
+    fn label(self, i: usize) -> u8
+        requires { i < number self }
+        ensures { result ≡ (step self i).label };
+}
+
+// A path that a caller lends.
+#[derive(Clone, Copy)]
+pub struct LentPath<'a> {
+    pub bytes: &'a [u8],
+}
+
+impl HasSteps for LentPath<'_> {
+    ghost number = { λ p. length p.bytes.now / 3 };
+
+    ghost step = { λ p. lent_step p.bytes.now };
+
+    fn count(self) -> usize {
+        self.bytes.len() / 3
+    }
+
+    fn name(self, i: usize) -> u32 {
+        u32::from(self.bytes[3 * i]) + 256 * u32::from(self.bytes[3 * i + 1])
+    }
+
+    fn label(self, i: usize) -> u8 {
+        self.bytes[3 * i + 2]
+    }
 }
 
 // Whether a step is valid and may follow one with the label before.
@@ -44,43 +106,16 @@ pub fn may_follow(before: u8, lo: u8, hi: u8, label: u8) -> bool
     label::dominates(label, before)
 }
 
-// The name of step i of a lent path.
-pub fn lent_name(path: &[u8], i: usize) -> u32
-    requires { 3 * i + 2 < length path.now }
-    ensures { (result ≡ (lent_step path.now i).name) × (result < 65536) }
-{
-    octets::wide(path[3 * i]) + 256 * octets::wide(path[3 * i + 1])
-}
-
-// The label of step i of a lent path.
-pub fn lent_label(path: &[u8], i: usize) -> u8
-    requires { 3 * i + 2 < length path.now }
-    ensures { result ≡ (lent_step path.now i).label }
-{
-    path[3 * i + 2]
-}
-
-// Whether step i of a lent path is valid and may follow one with the label before.
-fn lent_follows(before: u8, path: &[u8], i: usize) -> bool
-    requires { 3 * i + 2 < length path.now }
-    ensures { result ≡ may_follow before (lent_step path.now i) }
-{
-    may_follow(before, path[3 * i], path[3 * i + 1], path[3 * i + 2])
-}
-
 // Whether the steps of a lent path are valid and their labels ascend.
 fn steps_follow(path: &[u8]) -> bool
     ensures { result ≡ all_follow 0 (steps_of path.now) }
 {
-    let n = path.len() / 3;
     let mut before: u8 = 0;
-    let mut i: usize = 0;
-    while i < n {
-        if !lent_follows(before, path, i) {
+    for i in 0..path.len() / 3 {
+        if !may_follow(before, path[3 * i], path[3 * i + 1], path[3 * i + 2]) {
             return false;
         }
-        before = lent_label(path, i);
-        i += 1;
+        before = path[3 * i + 2];
     }
     true
 }

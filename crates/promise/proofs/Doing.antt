@@ -40,10 +40,13 @@ module _ (o : Op) (s : ℕ) (b y : List ℕ) where
   by_rows e = ap (λ (r : Option ℕ). outcome_by r o s (open_model b)) e
 
   -- an operation that row 3 refuses
+  pub acted-unformed : {k : ℕ} → k ≡ row_code (formed_rows s (open_model b)) → (k ≡ 0 → ⊥) → Acted o s b y (refused_told k o) b y
+  acted-unformed {k} e h =
+      let rest = op_rows o s (open_model b) in
+      gives_as (by_rows (rows-refuse (formed_rows s (open_model b) ++ rest) (rows-stop (formed_rows s (open_model b)) rest e h) h)) (gives-refused k)
+
   pub acted-raw : T (some_raw s (open_model b)) → Acted o s b y (refused_told 3 o) b y
-  acted-raw t =
-      let e : 3 ≡ row_code (formed_rows s (open_model b) ++ op_rows o s (open_model b)) = row-applies (some_raw s (open_model b)) (op_rows o s (open_model b)) t in
-      gives_as (by_rows (rows-refuse (formed_rows s (open_model b) ++ op_rows o s (open_model b)) e (λ z. absurd (omega arith)))) (gives-refused 3)
+  acted-raw t = acted-unformed (row-applies (some_raw s (open_model b)) _ t) (λ z. absurd (omega arith))
 
   module _ (f : T (not (some_raw s (open_model b)))) where
     formed-past : refusal (formed_rows s (open_model b) ++ op_rows o s (open_model b)) ≡ refusal (op_rows o s (open_model b))

@@ -1,4 +1,5 @@
 -- Laws of calls that do as promised.
+pub mod Refusing
 pub mod Doing
 pub mod Grading
 pub mod Intaking

@@ -2,3 +2,4 @@
 pub mod Did
 pub mod Ran
 pub mod Migrated
+pub mod Refusals

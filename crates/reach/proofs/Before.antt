@@ -56,8 +56,8 @@ pass-start b s =
 
 module _ {g : ℕ → Step} {s w c i : ℕ} (inv : Passed g s w c i) where
   -- where no step is left, all are counted
-  pub pass-end : c ≤ i → i ≡ w
-  pass-end h = sym (inv.same ∙ ap (λ (p : List Step). i + steps_before s p) (rest_end g c i h) ∙ omega arith)
+  pub pass-end : c ≤ i → c ≡ w
+  pass-end h = sym (inv.same ∙ ap (λ (p : List Step). i + steps_before s p) (rest_end g c i h) ∙ omega (arith, inv.within))
 
   module _ (h : i < c) where
     -- the count from step i on

@@ -15,7 +15,7 @@ use Rattle.model.specs.Lists.{range, ◌∈◌}
 use Rattle.model.specs.Sets.{sorted, ahead}
 use Rattle.model.specs.Path.{Step, is_prefix, path_rank}
 use Rattle.model.specs.Element.{Element, rank}
-use Rattle.model.specs.Slot.{slot_size, read_path, read_slot}
+use Rattle.model.specs.Slot.{read_path, read_slot}
 use Rattle.model.specs.Partition.{count, slot_at, read_partition}
 use Rattle.model.specs.View.{reaches}
 use Rattle.model.specs.Groups.{seen_steps}
@@ -26,8 +26,8 @@ use Rattle.model.proofs.Prefixes.{prefix-take}
 use Rattle.model.proofs.Groups.{reaches_of, reaches_more, seen-is}
 use Rattle.path.specs.Common.{common, is_before, Compared}
 use Rattle.path.proofs.Common.{common-second, common-take}
-use Rattle.partition.specs.Place.{Formed, place_of}
-use Rattle.partition.proofs.Finding.{element_at, elements-range, length-read, formed-sorted}
+use Rattle.partition.specs.Place.{InOrder, place_of}
+use Rattle.partition.proofs.Finding.{element_at, elements-range, length-read}
 use Rattle.reach.specs.Shared.{shared_at, shared_before}
 use Rattle.reach.proofs.Between.{common-most, between_first, between-second}
 
@@ -174,26 +174,26 @@ shared-range g p i zero (suc c) h = let e : i ≡ i + 0 = omega arith in ap (λ 
 shared-range g p i (suc k) (suc c) h =
     let e : suc i + k ≡ i + suc k = omega arith in shared-range g p (suc i) k c (omega arith) ∙ ap (λ (j : ℕ). common (g j).path p) e
 
-module _ (b : List ℕ) (p : List Step) {i c : ℕ} (e : (c ≡ count b) × (c < 256)) where
+module _ (b : List ℕ) (p : List Step) {i c : ℕ} (e : (c ≡ count b) × (c ≤ 32)) where
   -- no slot
   pub slot-none : c ≤ i → 0 ≡ shared_at i p (read_partition b)
   slot-none h = sym (shared-none i p (read_partition b) (omega (arith, length-read b)))
 
   -- a slot, read as x and compared with the path
-  pub slot-shared : i < c → {x : List ℕ} → (x ≡ slot_at b i) × (length x ≡ slot_size) → {s : ℕ} {t : Bool} → Compared (read_path x) p s t
+  pub slot-shared : i < c → {x : List ℕ} → x ≡ slot_at b i → {s : ℕ} {t : Bool} → Compared (read_path x) p s t
       → s ≡ shared_at i p (read_partition b)
   unfolding read_slot
   slot-shared h d m =
       let z : 0 + i ≡ i = omega arith in
       let k : i < count b = omega arith in
       m.shared-is
-      ∙ ap (λ (l : List ℕ). common (read_path l) p) d.0
+      ∙ ap (λ (l : List ℕ). common (read_path l) p) d
       ∙ sym (ap (shared_at i p) (elements-range b) ∙ shared-range (element_at b) p 0 i (count b) k ∙ ap (λ (j : ℕ). common (element_at b j).path p) z)
 
 -- the greater of what the slots beside the place share
-pub held-seen : {b : List ℕ} → Formed b → (p : List Step) {i x y r : ℕ} → i ≡ place_of p (read_partition b)
+pub held-seen : {b : List ℕ} → InOrder b → (p : List Step) {i x y r : ℕ} → i ≡ place_of p (read_partition b)
     → x ≡ shared_before i p (read_partition b) → y ≡ shared_at i p (read_partition b) → r ≡ max x y → r ≡ seen_steps (read_partition b) p
 held-seen {b} f p {i} {x} {y} {r} e u v w =
     let x-is : x ≡ shared_before (place_of p (read_partition b)) p (read_partition b) = u ∙ ap (λ (j : ℕ). shared_before j p (read_partition b)) e in
     let y-is : y ≡ shared_at (place_of p (read_partition b)) p (read_partition b) = v ∙ ap (λ (j : ℕ). shared_at j p (read_partition b)) e in
-    w ∙ rw (x-is, y-is) (beside-seen p (read_partition b) (formed-sorted f))
+    w ∙ rw (x-is, y-is) (beside-seen p (read_partition b) f.order)

@@ -28,7 +28,7 @@ fn start<R: Read, W: Write, E: Write>(
     requires { store.old ≡ empty_store }
     ensures { (whole : Bool) × Ran whole empty_store store.new }
 {
-    if !console::run(reader, writer, store) {
+    if console::run(reader, writer, store).is_err() {
         let _ = errors.write_all(b"the script was not carried out to its end\n");
     }
 }

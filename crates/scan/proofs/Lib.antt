@@ -3,3 +3,4 @@ pub mod Goings
 pub mod Fronts
 pub mod Numerals
 pub mod Signs
+pub mod Showing

@@ -7,9 +7,9 @@ use native.Mathlib.Numerals.{add-one}
 use native.Mathlib.Omega.{arith}
 use lib.ListN.{length, drop, get_or, drop_of_length-le, take-append-drop}
 use lib.Seq.{drop-drop}
-use lib.Dec.{T, eqb, leb, ltb}
+use lib.Dec.{T, eqb, ltb}
 use mir.Facts.{T_not, ltb_yes, ltb_no}
-use borrow.Author.Tests.{lt-leb, le-leb, eqb-true, not-true, not-false}
+use borrow.Author.Tests.{eqb-true, not-true, not-false}
 use Rattle.model.specs.Lists.{all, between}
 use Rattle.model.specs.Text.{decimal, is_digit, value_from, digits_value, no_leading_zero}
 use Rattle.model.proofs.Bools.{and_l, and_r, decide, is_true}
@@ -17,20 +17,10 @@ use Rattle.model.proofs.Lists.{all_append, between_join, between-one, between_no
 use Rattle.model.proofs.Decimal.{decimal-value, decimal_injective, decimal-digits, decimal-lead, decimal-unique, digit-range}
 use Rattle.scan.specs.Text.{begins, no_digit}
 use Rattle.scan.specs.Numbers.{Run, Numbered, NumberAt}
-use Rattle.scan.specs.declared.numbers.Number.TheVariants as number
+use Rattle.std.specs.Prelude.{Some, None}
 use Rattle.scan.proofs.Goings.{neither, drop_here}
 
 -- ---- one digit
-
--- a byte below the digits
-pub digit_low : (x : ℕ) → x < 48 → false ≡ is_digit x
-unfolding is_digit
-digit_low x h = rw (lt-leb 48 x h)
-
--- a byte that is not below them
-pub digit-high : (x : ℕ) → 48 ≤ x → leb x 57 ≡ is_digit x
-unfolding is_digit
-digit-high x h = rw (le-leb 48 x h)
 
 -- a digit's byte is not below the zero's
 pub digit-least : {t : Bool} (x : ℕ) → t ≡ is_digit x → not t ≡ false → 48 ≤ x
@@ -152,7 +142,7 @@ module _ (at end : ℕ) (l : List ℕ) where
 
 module _ {most : ℕ} {l : List ℕ} {at v i : ℕ} (run : Run most l at v i) where
   -- the digits stand for too much
-  pub number-over : most < v → NumberAt most l at number.None
+  pub number-over : most < v → NumberAt most l at None
   number-over h n r s =
       let f = first-digits 0 (between at i l) (drop i l) (decimal n) r run.digits s.ends (sym (part-rest at i l run.from) ∙ s.same) in
       let e : digits_value (decimal n) ≡ n = decimal-value n in
@@ -160,14 +150,14 @@ module _ {most : ℕ} {l : List ℕ} {at v i : ℕ} (run : Run most l at v i) wh
 
   module _ (h : v ≤ most) {t : Bool} (e : t ≡ no_leading_zero (between at i l)) where
     -- there is no digit, or a zero before others
-    pub number-unled : not t ≡ true → NumberAt most l at number.None
+    pub number-unled : not t ≡ true → NumberAt most l at None
     number-unled k n r s =
         let u = digits-unique (between at i l) (decimal n) run.digits (run.stops h) (decimal-digits n) s.ends
         (sym (part-rest at i l run.from) ∙ s.same) in
         neither (not-true t k) (e ∙ ap no_leading_zero u.0 ∙ is_true (no_leading_zero (decimal n)) (decimal-lead n))
 
     -- they are a number
-    pub number-found : not t ≡ false → NumberAt most l at (number.Is v i)
+    pub number-found : not t ≡ false → NumberAt most l at (Some (v, i))
     number-found k = (
       some (sym e ∙ not-false t k),
       run.within,

@@ -4,28 +4,12 @@ ghost use Rattle.model.specs.Lists.{between};
 ghost use Rattle.model.specs.Text.{is_digit, no_leading_zero};
 ghost use Rattle.scan.specs.Numbers.{Run, NumberAt};
 
-// A number and where it ends.
-#[derive(Drop)]
-pub enum Number {
-    Is(u64, usize),
-    None,
-}
-
-// Digits: the number that they stand for, and where they end.
-#[derive(Drop)]
-struct Digits {
-    value: u64,
-    end: usize,
-}
-
 // Whether a byte is a digit.
+#[tactic(auto, unfolding(model::specs::Text::is_digit))]
 fn is_digit(x: u8) -> bool
     ensures { result ≡ is_digit x }
 {
-    if x < b'0' {
-        return false;
-    }
-    x <= b'9'
+    x.is_ascii_digit()
 }
 
 // The number that a digit stands for.
@@ -33,28 +17,23 @@ fn digit(x: u8) -> u64
     requires { 48 ≤ x }
     ensures { (result ≡ x - 48) × (result < 256) }
 {
-    (x - b'0') as u64
+    u64::from(x - b'0')
 }
 
-// The digits from at on, up to one that makes the number greater than most.
-fn digits_at(text: &[u8], at: usize, most: u64) -> Digits
+// The digits from at on, up to one that makes the number greater than most: what they stand for, and where they end.
+fn digits_at(text: &[u8], at: usize, most: u64) -> (u64, usize)
     requires at_in_bounds { at ≤ length text.now }
     requires most_bound { most < 4294967296 }
-    ensures { Run most text.now at result.value result.end }
+    ensures { Run most text.now at result.0 result.1 }
 {
     let mut value: u64 = 0;
-    let mut i = at;
-    while i < text.len() {
-        if most < value {
-            return Digits { value, end: i };
-        }
-        if !is_digit(text[i]) {
-            return Digits { value, end: i };
+    for i in at..text.len() {
+        if most < value || !is_digit(text[i]) {
+            return (value, i);
         }
         value = value * 10 + digit(text[i]);
-        i += 1;
     }
-    Digits { value, end: i }
+    (value, text.len())
 }
 
 // Whether there are digits from at to end, and no zero before others.
@@ -71,20 +50,18 @@ fn is_led(text: &[u8], at: usize, end: usize) -> bool
     text[at] != b'0'
 }
 
-// The number that begins at at: at most most, without a leading zero, and no digit behind it.
-pub fn number_at(text: &[u8], at: usize, most: u64) -> Number
+// The number that begins at at, and where it ends: at most most, without a leading zero, and no digit behind it.
+pub fn number_at(text: &[u8], at: usize, most: u64) -> Option<(u64, usize)>
     requires at_in_bounds { at ≤ length text.now }
     requires most_bound { most < 4294967296 }
     ensures { NumberAt most text.now at result }
 {
-    let d = digits_at(text, at, most);
-    let value = d.value;
-    let end = d.end;
+    let (value, end) = digits_at(text, at, most);
     if most < value {
-        return Number::None;
+        return None;
     }
     if !is_led(text, at, end) {
-        return Number::None;
+        return None;
     }
-    Number::Is(value, end)
+    Some((value, end))
 }

@@ -1,5 +1,5 @@
 -- End tags at a place of a text.
-use mathlib.Core.Path.{◌≡◌, sym, ap, subst, ◌∙◌}
+use mathlib.Core.Path.{◌≡◌, sym, ap, ◌∙◌}
 use mathlib.Core.Bool.{Bool, true, false, not}
 use mathlib.Core.List.{List, ◌∷◌, ◌++◌}
 use Prim.Native.Nat.{ℕ, ◌+◌, ◌≤◌}
@@ -9,11 +9,9 @@ use Rattle.model.specs.Text.{ascii, decimal, is_digit}
 use Rattle.model.specs.Xml.{end_tag}
 use Rattle.model.proofs.Sending.{end-text}
 use Rattle.scan.specs.Text.{begins}
-use Rattle.scan.specs.declared.numbers.Number.{Number}
-use Rattle.scan.specs.declared.numbers.Number.TheVariants as number
+use Rattle.std.specs.Prelude.{Some, None}
 use Rattle.scan.proofs.Goings.{begins-yes, begins-no}
 use Rattle.scan_tag.specs.Tags.{Behind, BehindAt, EndAt}
-use Rattle.scan_tag.specs.declared.EndRead.TheVariants as end
 use Rattle.scan_tag.proofs.Leading.{behind-unique}
 
 -- the number of an end tag
@@ -21,30 +19,27 @@ end-number : {l r : List ℕ} {name : ℕ} → name ≤ 65535 → l ≡ end_tag 
 unfolding is_digit
 end-number {r = r} {name = name} h q = record { small = h; ends = tt; same = q ∙ end-text name r }
 
-module _ (l : List ℕ) (at name : ℕ) (small : name ≤ 65535) {x : Number} (read : BehindAt (ascii "</e") 65535 l at x) where
+module _ (l : List ℕ) (at name : ℕ) (small : name ≤ 65535) where
   -- no number there
-  pub end-nameless : x ≡ number.None → EndAt l at name end.None
-  end-nameless e r q = subst (BehindAt (ascii "</e") 65535 l at) e read name (62 ∷ r) (end-number small q)
+  pub end-nameless : BehindAt (ascii "</e") 65535 l at None → EndAt l at name None
+  end-nameless f r q = f name (62 ∷ r) (end-number small q)
 
-  module _ {n close : ℕ} (is : x ≡ number.Is n close) where
-    number_read : BehindAt (ascii "</e") 65535 l at (number.Is n close)
-    number_read = subst (BehindAt (ascii "</e") 65535 l at) is read
-
+  module _ {n close : ℕ} (number_read : BehindAt (ascii "</e") 65535 l at (Some (n, close))) where
     -- the number of an end tag there, and what follows it
     the_number : (r : List ℕ) → drop at l ≡ end_tag name ++ r → (n ≡ name) × (drop close l ≡ 62 ∷ r)
     the_number r q = behind-unique (ascii "</e") number_read.2 (end-number small q)
 
     -- the end tag of another name
-    pub end-other : (n ≡ name → ⊥) → EndAt l at name end.None
+    pub end-other : (n ≡ name → ⊥) → EndAt l at name None
     end-other h r q = h (the_number r q).0
 
     module _ {t : Bool} (e : t ≡ begins 62 (drop close l)) where
       -- the tag does not end behind the number
-      pub end-open : not t ≡ true → EndAt l at name end.None
+      pub end-open : not t ≡ true → EndAt l at name None
       end-open h r q = begins-no l close 62 e h r (the_number r q).1
 
       -- it does
-      pub end-found : n ≡ name → not t ≡ false → EndAt l at name (end.Is (close + 1))
+      pub end-found : n ≡ name → not t ≡ false → EndAt l at name (Some (close + 1))
       end-found h k =
           let b = begins-yes l close 62 e k in (
             omega (arith, number_read.0),

@@ -1,5 +1,5 @@
 -- A number behind given bytes.
-use mathlib.Core.Path.{◌≡◌, ap, subst, ◌∙◌}
+use mathlib.Core.Path.{◌≡◌, ap, ◌∙◌}
 use mathlib.Core.Bool.{Bool, true, false, not}
 use mathlib.Core.List.{List, [], ◌∷◌, ◌++◌}
 use Prim.Native.Nat.{ℕ, ◌+◌, ◌≤◌}
@@ -9,8 +9,7 @@ use lib.Seq.{drop-append_seam}
 use Rattle.model.specs.Text.{decimal}
 use Rattle.scan.specs.Text.{is_front}
 use Rattle.scan.specs.Numbers.{Numbered, NumberAt}
-use Rattle.scan.specs.declared.numbers.Number.{Number}
-use Rattle.scan.specs.declared.numbers.Number.TheVariants.{Is, None}
+use Rattle.std.specs.Prelude.{Option, Some, None}
 use Rattle.scan.proofs.Fronts.{Stands, front-yes, front-no}
 use Rattle.scan.proofs.Numerals.{numbered-unique}
 use Rattle.scan_tag.specs.Tags.{Behind, BehindAt}
@@ -23,10 +22,6 @@ behind-front b {n = n} {r = r} s =
 -- one number at most stands behind given bytes
 pub behind-unique : (b : List ℕ) {m k n o : ℕ} {l r q : List ℕ} → Behind b m l n r → Behind b k l o q → (n ≡ o) × (r ≡ q)
 behind-unique b s t = numbered-unique (behind-front b s) (behind-front b t)
-
--- a number that was read ends within the text
-pub behind-end : (b : List ℕ) (most : ℕ) (l : List ℕ) (at : ℕ) {x : Number} → BehindAt b most l at x → {n next : ℕ} → x ≡ Is n next → next ≤ length l
-behind-end b most l at s e = (subst (BehindAt b most l at) e s).1
 
 module _ (b l : List ℕ) (at : ℕ) {t : Bool} (e : t ≡ is_front b (drop at l)) where
   -- the bytes do not stand there
@@ -47,8 +42,8 @@ module _ (b l : List ℕ) (at : ℕ) {t : Bool} (e : t ≡ is_front b (drop at l
     behind-within = stands.1
 
     -- what is read there
-    pub behind-number : (most : ℕ) (x : Number) → NumberAt most l (at + length b) x → BehindAt b most l at x
-    behind-number most (Is n next) s = (
+    pub behind-number : (most : ℕ) (x : Option (ℕ × ℕ)) → NumberAt most l (at + length b) x → BehindAt b most l at x
+    behind-number most (Some (n, next)) s = (
       omega (arith, s.0),
       s.1,
       record { small = s.2.small; ends = s.2.ends; same = stands.0 ∙ ap (λ (r : List ℕ). b ++ r) s.2.same },

@@ -7,7 +7,7 @@ use native.Mathlib.Omega.{arith}
 use lib.ListN.{length, drop, get_or, drop_of_length-le}
 use lib.Dec.{T, eqb}
 use mir.Facts.{T_not, eqb_no}
-use borrow.Author.Tests.{le-leb, lt-leb, eq-eqb, ne_eqb, not-false}
+use borrow.Author.Tests.{eq-eqb, not-false}
 use Rattle.model.specs.Value.{is_printable}
 use Rattle.model.specs.Text.{ascii}
 use Rattle.model.specs.Xml.{escaped}
@@ -17,33 +17,33 @@ use Rattle.scan.specs.Text.{begins, is_front}
 use Rattle.scan.proofs.Goings.{neither, no-empty, drop_here}
 use Rattle.scan.proofs.Fronts.{front-true, front-false}
 use Rattle.scan_value.specs.Values.{CharAt, is_plain}
-use Rattle.scan_value.specs.declared.CharRead.TheVariants.{Is, None}
+use Rattle.std.specs.Prelude.{Some, None}
 
 -- ---- behind an ampersand
 
 module _ (l : List ℕ) (at : ℕ) where
   -- the bytes of an escaped character stand there
   escape-found : (x : ℕ) (b : List ℕ) → T (is_printable x) → escaped x ≡ 38 ∷ b → {t : Bool} → t ≡ is_front (38 ∷ b) (drop at l) → t ≡ true
-      → CharAt l at (Is x (at + length (38 ∷ b)))
+      → CharAt l at (Some (x, at + length (38 ∷ b)))
   escape-found x b p q e h =
       let s = front-true 38 b l at e h in
       (omega arith, s.1, record { printable = p; same = s.0 ∙ ap (λ (y : List ℕ). y ++ drop (at + length (38 ∷ b)) l) (sym q) })
 
   module _ {t : Bool} (e : t ≡ is_front (ascii "&amp;") (drop at l)) where
     -- an ampersand
-    pub amp-found : t ≡ true → CharAt l at (Is 38 (at + 5))
+    pub amp-found : t ≡ true → CharAt l at (Some (38, at + 5))
     unfolding escaped is_printable
     amp-found = escape-found 38 (ascii "amp;") tt refl e
 
     module _ {u : Bool} (f : u ≡ is_front (ascii "&lt;") (drop at l)) where
       -- a <
-      pub lt-found : u ≡ true → CharAt l at (Is 60 (at + 4))
+      pub lt-found : u ≡ true → CharAt l at (Some (60, at + 4))
       unfolding escaped is_printable
       lt-found = escape-found 60 (ascii "lt;") tt refl f
 
       module _ {w : Bool} (g : w ≡ is_front (ascii "&gt;") (drop at l)) where
         -- a >
-        pub gt-found : w ≡ true → CharAt l at (Is 62 (at + 4))
+        pub gt-found : w ≡ true → CharAt l at (Some (62, at + 4))
         unfolding escaped is_printable
         gt-found = escape-found 62 (ascii "gt;") tt refl g
 
@@ -58,27 +58,6 @@ module _ (l : List ℕ) (at : ℕ) where
             s.same
 
 -- ---- a byte that stands for itself
-
-module _ (x : ℕ) where
-  -- below those that are printable
-  pub plain-low : x < 32 → false ≡ is_plain x
-  unfolding is_plain is_printable
-  plain-low h = rw (lt-leb 32 x h)
-
-  module _ (h : 32 ≤ x) where
-    -- above them
-    pub plain-high : 126 < x → false ≡ is_plain x
-    unfolding is_plain is_printable
-    plain-high k = rw (le-leb 32 x h, lt-leb x 126 k)
-
-    -- neither
-    pub plain-opens : x ≤ 126 → x ≡ 60 → false ≡ is_plain x
-    unfolding is_plain is_printable
-    plain-opens k e = rw e
-
-    pub plain-closes : x ≤ 126 → (x ≡ 60 → ⊥) → not (eqb x 62) ≡ is_plain x
-    unfolding is_plain is_printable
-    plain-closes k f = rw (le-leb 32 x h, le-leb x 126 k, ne_eqb x 60 f)
 
 -- what it says
 plain-parts : (x : ℕ) → T (is_plain x) → T (is_printable x) × T (not (eqb x 60)) × T (not (eqb x 62))
@@ -120,7 +99,7 @@ module _ (l : List ℕ) (at : ℕ) {t : Bool} (e : t ≡ begins 38 (drop at l)) 
           s.same
 
       -- a byte that does
-      pub char-plain : not p ≡ false → CharAt l at (Is (get_or l at 0) (at + 1))
+      pub char-plain : not p ≡ false → CharAt l at (Some (get_or l at 0, at + 1))
       char-plain g = (omega arith, omega arith, record { printable = there.0; same = same })
         where
           there : T (is_printable (get_or l at 0)) × T (not (eqb (get_or l at 0) 60)) × T (not (eqb (get_or l at 0) 62))

@@ -20,10 +20,9 @@ use Rattle.model.proofs.Balance.{escaped-fact}
 use Rattle.model.proofs.Tagging.{first-unique}
 use Rattle.scan.specs.Text.{begins}
 use Rattle.scan_value.specs.Values.{CharAt, ValueAt}
-use Rattle.scan_value.specs.declared.CharRead.{CharRead}
-use Rattle.scan_value.specs.declared.CharRead.TheVariants as char
-use Rattle.scan_value.specs.declared.ValueRead.TheVariants.{Is, None}
+use Rattle.std.specs.Prelude.{Some, None}
 use Rattle.scan_value.proofs.Valuing.{unvalued}
+use Rattle.kind.specs.declared.Kind.TheVariants.{Text}
 
 -- ---- the first characters of a text
 
@@ -83,10 +82,10 @@ module _ {l : List ℕ} {at : ℕ} {c b : List ℕ} {i n : ℕ} (inv : Passed l 
   passed_length = length-take-le n b (omega (arith, inv.count, inv.size))
 
   -- then no text begins with those that are passed
-  text-no : Stops (drop i l) n → ValueAt l at 2 b None
+  text-no : Stops (drop i l) n → ValueAt l at (Some Text) b None
   unfolding value_xml
   text-no f =
-      unvalued 2 (omega arith) λ w r a o q.
+      unvalued Text λ w r a o q.
       let u = text-back (take n b) w (drop i l) r o (sym inv.same ∙ q) in
       let p = text-parts w a in
       let k : length w ≡ n + length u.rest = ap length u.is ∙ length-append (take n b) u.rest ∙ ap (λ (m : ℕ). m + length u.rest) passed_length in
@@ -97,7 +96,7 @@ module _ {l : List ℕ} {at : ℕ} {c b : List ℕ} {i n : ℕ} (inv : Passed l 
   module _ {t : Bool} (e : t ≡ begins 60 (drop i l)) where
     module _ (h : not t ≡ false) where
       -- a tag follows no character
-      pub text-empty : n ≡ 0 → ValueAt l at 2 b None
+      pub text-empty : n ≡ 0 → ValueAt l at (Some Text) b None
       text-empty z = text-no go
         where
           go : Stops (drop i l) n
@@ -107,7 +106,7 @@ module _ {l : List ℕ} {at : ℕ} {c b : List ℕ} {i n : ℕ} (inv : Passed l 
               (subst (λ y. T (begins 60 y)) (d ∙ append_assoc (escaped x) (gather escaped v) r) (rw (← e, not-false t h) tt))
 
       -- a tag follows the last
-      pub text-found : (n ≡ 0 → ⊥) → ValueAt l at 2 b (Is n i)
+      pub text-found : (n ≡ 0 → ⊥) → ValueAt l at (Some Text) b (Some (n, i))
       unfolding bringable value_xml
       text-found z = (
         inv.from,
@@ -126,49 +125,45 @@ module _ {l : List ℕ} {at : ℕ} {c b : List ℕ} {i n : ℕ} (inv : Passed l 
       unopened r o d = T_not (begins 60 (drop i l)) (rw d o) (rw (← e, h) tt)
 
       -- more than 16
-      pub text-over : 16 ≤ n → ValueAt l at 2 b None
+      pub text-over : 16 ≤ n → ValueAt l at (Some Text) b None
       text-over k = text-no go
         where
           go : Stops (drop i l) n
           go [] r p q s o d = unopened r o d
           go (x ∷ v) r p q s o d = omega arith
 
-      module _ {x : CharRead} (s : CharAt l i x) where
-        -- no character there
-        pub text-stop : x ≡ char.None → ValueAt l at 2 b None
-        text-stop f = text-no go
+      -- no character there
+      pub text-stop : CharAt l i None → ValueAt l at (Some Text) b None
+      text-stop f = text-no go
+        where
+          go : Stops (drop i l) n
+          go [] r p q k o d = unopened r o d
+          go (y ∷ v) r p q k o d =
+              f y (gather escaped v ++ r)
+              (record { printable = and_l (is_printable y) (all is_printable v) k; same = d ∙ append_assoc (escaped y) (gather escaped v) r })
+
+      module _ {y next : ℕ} (there : CharAt l i (Some (y, next))) where
+        -- less of the text is left behind it
+        pub text-less : length l - next < length l - i
+        text-less = omega (arith, there.0, there.1)
+
+        -- one character more
+        pub text-next : n < 16 → Passed l at c (set b n y) next (n + 1)
+        text-next k = record {
+          from = omega (arith, inv.from, there.0);
+          within = there.1;
+          count = omega arith;
+          size = length-set b n y ∙ inv.size;
+          printable = rw more (all_append is_printable (take n b) (y ∷ []) inv.printable (both (is_printable y) true there.2.printable tt));
+          same =
+              inv.same
+              ∙ ap (λ (q : List ℕ). gather escaped (take n b) ++ q) there.2.same
+              ∙ sym (append_assoc (gather escaped (take n b)) (escaped y) (drop next l))
+              ∙ ap (λ (q : List ℕ). q ++ drop next l) (sym (ap (gather escaped) more ∙ last));
+        }
           where
-            go : Stops (drop i l) n
-            go [] r p q k o d = unopened r o d
-            go (y ∷ v) r p q k o d =
-                subst (CharAt l i) f s y (gather escaped v ++ r)
-                (record { printable = and_l (is_printable y) (all is_printable v) k; same = d ∙ append_assoc (escaped y) (gather escaped v) r })
+            more : take (n + 1) (set b n y) ≡ take n b ++ (y ∷ [])
+            more = rw (add-one n) (take-suc-set b n y (omega (arith, inv.size)))
 
-        module _ {y next : ℕ} (f : x ≡ char.Is y next) where
-          there : CharAt l i (char.Is y next)
-          there = subst (CharAt l i) f s
-
-          -- less of the text is left behind it
-          pub text-less : length l - next < length l - i
-          text-less = omega (arith, there.0, there.1)
-
-          -- one character more
-          pub text-next : n < 16 → Passed l at c (set b n y) next (n + 1)
-          text-next k = record {
-            from = omega (arith, inv.from, there.0);
-            within = there.1;
-            count = omega arith;
-            size = length-set b n y ∙ inv.size;
-            printable = rw more (all_append is_printable (take n b) (y ∷ []) inv.printable (both (is_printable y) true there.2.printable tt));
-            same =
-                inv.same
-                ∙ ap (λ (q : List ℕ). gather escaped (take n b) ++ q) there.2.same
-                ∙ sym (append_assoc (gather escaped (take n b)) (escaped y) (drop next l))
-                ∙ ap (λ (q : List ℕ). q ++ drop next l) (sym (ap (gather escaped) more ∙ last));
-          }
-            where
-              more : take (n + 1) (set b n y) ≡ take n b ++ (y ∷ [])
-              more = rw (add-one n) (take-suc-set b n y (omega (arith, inv.size)))
-
-              last : gather escaped (take n b ++ (y ∷ [])) ≡ gather escaped (take n b) ++ escaped y
-              last = gather_append escaped (take n b) (y ∷ []) ∙ ap (λ (q : List ℕ). gather escaped (take n b) ++ q) (append-nil (escaped y))
+            last : gather escaped (take n b ++ (y ∷ [])) ≡ gather escaped (take n b) ++ escaped y
+            last = gather_append escaped (take n b) (y ∷ []) ∙ ap (λ (q : List ℕ). gather escaped (take n b) ++ q) (append-nil (escaped y))

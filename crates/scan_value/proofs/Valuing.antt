@@ -1,9 +1,10 @@
 -- Values between two tags: measures, none, and what tells them apart.
 use mathlib.Core.Path.{◌≡◌, refl, sym, ap, subst, ◌∙◌}
 use mathlib.Core.Bool.{Bool, true, false, not}
-use mathlib.Core.Option.{Option, none, some}
+use mathlib.Core.Option.{none, some}
+use mathlib.Core.Option as logic
 use mathlib.Core.List.{List, [], ◌∷◌, ◌++◌}
-use Prim.Native.Nat.{ℕ, zero, suc, ◌/◌, ◌%◌, ◌≤◌, ◌<◌}
+use Prim.Native.Nat.{ℕ, ◌/◌, ◌%◌, ◌≤◌, ◌<◌}
 use native.Mathlib.Omega.{arith}
 use lib.ListN.{length, take, drop}
 use lib.Dec.{T, eqb}
@@ -19,23 +20,26 @@ use Rattle.model.proofs.Tagging.{measure-back}
 use Rattle.octets.specs.Joined.{word_bytes}
 use Rattle.scan.specs.Text.{begins, no_digit}
 use Rattle.scan.specs.Numbers.{SignedAt}
-use Rattle.scan.specs.Shown.{content_in, shown_as}
-use Rattle.scan.specs.declared.numbers.Number.{Number}
-use Rattle.scan.specs.declared.numbers.Number.TheVariants as number
+use Rattle.scan.specs.Shown.{content_in, kind_at, shows}
+use Rattle.scan.proofs.Showing.{shown-code}
 use Rattle.scan.proofs.Signs.{signed-unique}
 use Rattle.scan_value.specs.Values.{Valued, ValueAt, NothingAt}
-use Rattle.scan_value.specs.declared.ValueRead.{ValueRead}
-use Rattle.scan_value.specs.declared.ValueRead.TheVariants.{Is, None}
+use Rattle.std.specs.Prelude.{Option, Some, None}
+use Rattle.std.proofs.lemmas.Option.{none-some}
+use Rattle.kind.specs.Code.{code}
+use Rattle.kind.specs.declared.Kind.{Kind}
+use Rattle.kind.specs.declared.Kind.TheVariants.{Group, Measure}
 
 -- ---- a content by its kind
 
 -- what no value of a kind shows, no content of that kind shows
-pub unvalued : (k : ℕ) → k ≤ 2 → {l : List ℕ} → ((v r : List ℕ) → T (allowed k v) → T (begins 60 r) → l ≡ value_xml k v ++ r → ⊥)
-    → (c : Option Content) (r : List ℕ) → shown_as c ≡ k → Valued l c r → ⊥
+pub unvalued : (k : Kind) → {l : List ℕ} → ((v r : List ℕ) → T (allowed (code k) v) → T (begins 60 r) → l ≡ value_xml (code k) v ++ r → ⊥)
+    → (c : logic.Option Content) (r : List ℕ) → shows c ≡ Some k → Valued l c r → ⊥
 unfolding bringable
-unvalued k h f none r e s = omega arith
-unvalued k h {l} f (some c) r e s =
-    f c.value r (subst (λ i. T (allowed i c.value)) e s.shows) s.ends (subst (λ i. l ≡ value_xml i c.value ++ r) e s.same)
+unvalued k f none r e s = none-some k e
+unvalued k {l} f (some c) r e s =
+    let q : c.kind ≡ code k = shown-code c k s.shows e in
+    f c.value r (subst (λ i. T (allowed i c.value)) q s.shows) s.ends (subst (λ i. l ≡ value_xml i c.value ++ r) q s.same)
 
 -- ---- measures
 
@@ -62,31 +66,28 @@ measure-small : (v : List ℕ) → T (allowed 1 v) → measure_of v < 4294967296
 unfolding allowed
 measure-small v t = (measure-back v (eqb_yes (and_l (eqb (length v) 4) (all is_byte v) t)) (and_r (eqb (length v) 4) (all is_byte v) t)).1
 
-module _ (l : List ℕ) (at : ℕ) {x : Number} (s : SignedAt l at x) where
+module _ (l : List ℕ) (at : ℕ) where
   -- no number there
-  pub measure-none : x ≡ number.None → (c : Option Content) (r : List ℕ) → shown_as c ≡ 1 → Valued (drop at l) c r → ⊥
+  pub measure-none : SignedAt l at None → (b : List ℕ) → ValueAt l at (Some Measure) b None
   unfolding value_xml
-  measure-none e = unvalued 1 (omega arith) (λ v r t o. subst (SignedAt l at) e s (measure_of v) r (measure-small v t) (opens-undigit r o))
+  measure-none f b = unvalued Measure (λ v r t o. f (measure_of v) r (measure-small v t) (opens-undigit r o))
 
-  module _ {m next : ℕ} (e : x ≡ number.Is m next) where
-    there : SignedAt l at (number.Is m next)
-    there = subst (SignedAt l at) e s
-
+  module _ {m next : ℕ} (there : SignedAt l at (Some (m, next))) where
     -- the number fits into a word
     pub measure-fits : m < 4294967296
     measure-fits = there.2
 
     module _ {t : Bool} (f : t ≡ begins 60 (drop next l)) where
       -- no tag behind it
-      pub measure-more : not t ≡ true → (c : Option Content) (r : List ℕ) → shown_as c ≡ 1 → Valued (drop at l) c r → ⊥
+      pub measure-more : not t ≡ true → (b : List ℕ) → ValueAt l at (Some Measure) b None
       unfolding value_xml
-      measure-more h =
-          unvalued 1 (omega arith) λ v r a o q.
+      measure-more h b =
+          unvalued Measure λ v r a o q.
           let u = signed-unique m (measure_of v) (drop next l) r there.2 (measure-small v a) there.3 (opens-undigit r o) (sym there.4 ∙ q) in
           T_not (begins 60 (drop next l)) (rw u.1 o) (rw (← f, not-true t h) tt)
 
       -- a tag behind it
-      pub measure-found : not t ≡ false → (b : List ℕ) {r : List ℕ} → b ≡ word_bytes m ++ r → ValueAt l at 1 b (Is 4 next)
+      pub measure-found : not t ≡ false → (b : List ℕ) {r : List ℕ} → b ≡ word_bytes m ++ r → ValueAt l at (Some Measure) b (Some (4, next))
       unfolding value_xml bringable
       measure-found h b w =
           let u = word-measure m there.2 in (
@@ -108,31 +109,27 @@ module _ (l : List ℕ) (at : ℕ) {t : Bool} (e : t ≡ begins 60 (drop at l)) 
   nothing-other h k = T_not (begins 60 (drop at l)) k (rw (← e, h) tt)
 
   -- a tag
-  pub nothing-found : at ≤ length l → not t ≡ false → NothingAt l at (Is 0 at)
+  pub nothing-found : at ≤ length l → not t ≡ false → NothingAt l at (Some (0, at))
   nothing-found k h = (refl, refl, k, rw (← e, not-false t h) tt)
 
 module _ (l : List ℕ) (at : ℕ) (b : List ℕ) where
   -- a content that shows nothing is read where a tag is
-  bare-found : (k n next : ℕ) → T (may_show (content_in k [])) → content_xml (content_in k []) ≡ [] → NothingAt l at (Is n next) → ValueAt l at k b (Is n next)
+  bare-found : (k : Option Kind) (n next : ℕ) → T (may_show (content_in k [])) → content_xml (content_in k []) ≡ [] → NothingAt l at (Some (n, next)) → ValueAt l at k b (Some (n, next))
   bare-found k n next s e t =
       rw (t.0, t.1)
       (omega arith, t.2, omega arith, record { shows = s; ends = t.3; same = ap (λ (q : List ℕ). q ++ drop at l) (sym e) })
 
-  -- what says so for none says so for a group and for a removed element
-  pub bare-value : (k : ℕ) → k ≤ 3 → (k ≡ 1 → ⊥) → (k ≡ 2 → ⊥) → (x : ValueRead) → NothingAt l at x → ValueAt l at k b x
+  -- what says so for none says so for a group
+  pub bare-group : (x : Option (ℕ × ℕ)) → NothingAt l at x → ValueAt l at (Some Group) b x
   unfolding bringable allowed value_xml
-  bare-value zero h f g (Is n next) t = bare-found 0 n next tt refl t
-  bare-value zero h f g None t = unvalued 0 (omega arith) (λ v r a o q. t (rw q o))
-  bare-value (suc zero) h f g x t = absurd (f refl)
-  bare-value (suc (suc zero)) h f g x t = absurd (g refl)
-  bare-value (suc (suc (suc zero))) h f g (Is n next) t = bare-found 3 n next tt refl t
-  bare-value (suc (suc (suc zero))) h f g None t = removed
-    where
-      removed : (c : Option Content) (r : List ℕ) → shown_as c ≡ 3 → Valued (drop at l) c r → ⊥
-      removed none r e s = t (rw s.same s.ends)
-      removed (some c) r e s = subst (λ k. T (allowed k c.value)) e s.shows
-  bare-value (suc (suc (suc (suc k)))) h f g x t = absurd (omega arith)
+  bare-group (Some (n, next)) t = bare-found (Some Group) n next tt refl t
+  bare-group None t = unvalued Group (λ v r a o q. t (rw q o))
 
--- a value of the kind that a tag shows
-pub value-shown : (l : List ℕ) (at j : ℕ) {k : ℕ} → k ≡ j → (b : List ℕ) (x : ValueRead) → ValueAt l at j b x → ValueAt l at k b x
-value-shown l at j e b x s = subst (λ k. ValueAt l at k b x) (sym e) s
+  -- and for a removed element
+  pub bare-removed : (x : Option (ℕ × ℕ)) → NothingAt l at x → ValueAt l at None b x
+  bare-removed (Some (n, next)) t = bare-found None n next tt refl t
+  bare-removed None t = removed
+    where
+      removed : (c : logic.Option Content) (r : List ℕ) → shows c ≡ None → Valued (drop at l) c r → ⊥
+      removed none r e s = t (rw s.same s.ends)
+      removed (some c) r e s = none-some (kind_at c.kind) (sym e)

@@ -1,5 +1,5 @@
 -- Calls as they stand in a line.
-use mathlib.Core.Path.{◌≡◌, refl, sym, ap, ap₂, subst, ◌∙◌}
+use mathlib.Core.Path.{◌≡◌, refl, sym, ap, ap₂, ◌∙◌}
 use mathlib.Core.Bool.{Bool, true, false, not}
 use mathlib.Core.Option.{none}
 use mathlib.Core.List.{List, [], ◌∷◌, ◌++◌, append-nil}
@@ -16,8 +16,7 @@ use Rattle.model.specs.Script.{path_text, value_fields, call_text, path_in_range
 use Rattle.model.proofs.Bools.{and_l, and_r, both}
 use Rattle.scan.specs.Text.{begins}
 use Rattle.scan.specs.Numbers.{Numbered, NumberAt}
-use Rattle.scan.specs.declared.numbers.Number.{Number}
-use Rattle.scan.specs.declared.numbers.Number.TheVariants as number
+use Rattle.std.specs.Prelude.{Option, Some, None}
 use Rattle.scan.proofs.Goings.{no-empty, drop_here, drop-within, Here, begins-yes, begins-no}
 use Rattle.scan.proofs.Numerals.{numbered-unique}
 use Rattle.script.specs.Text.{closes}
@@ -27,14 +26,6 @@ use Rattle.script.specs.Calls.{op_of, text_in, Headed, HeadAt, Brought, Ended, B
 use Rattle.script.specs.declared.Call.{Call}
 use Rattle.script.specs.declared.Call.TheVariants.{View, Insert, Update, Delete}
 use Rattle.script.specs.declared.Value.{Value}
-use Rattle.script.specs.declared.Head.{Head}
-use Rattle.script.specs.declared.Head.TheVariants as head
-use Rattle.script.specs.declared.paths.Steps.{Steps}
-use Rattle.script.specs.declared.paths.Steps.TheVariants as steps
-use Rattle.script.specs.declared.values.ValueRead.{ValueRead}
-use Rattle.script.specs.declared.values.ValueRead.TheVariants as value
-use Rattle.script.specs.declared.CallRead.{CallRead}
-use Rattle.script.specs.declared.CallRead.TheVariants.{Is, None}
 use Rattle.script.proofs.Trails.{pathed-unique}
 
 -- ---- subject and verb
@@ -49,15 +40,15 @@ headed-unique {r = r} {q = q} {b = b} {c = c} x y =
     let e : ◌≡◌ {A = List ℕ} (9 ∷ b ∷ 9 ∷ r) (9 ∷ c ∷ 9 ∷ q) = u.1 in
     (u.0, cc, cc)
 
-module _ (l : List ℕ) {x : Number} (r : NumberAt 255 l 0 x) where
+module _ (l : List ℕ) where
   -- no subject
-  pub head-none : x ≡ number.None → HeadAt l head.None
-  head-none e s b q h = subst (NumberAt 255 l 0) e r s (9 ∷ b ∷ 9 ∷ q) (head-number h)
+  pub head-none : NumberAt 255 l 0 None → HeadAt l None
+  head-none f s b q h = f s (9 ∷ b ∷ 9 ∷ q) (head-number h)
 
-  module _ {n tab : ℕ} (is : x ≡ number.Is n tab) where
+  module _ {n tab : ℕ} (numbered : NumberAt 255 l 0 (Some (n, tab))) where
     -- the subject, where it is read
-    pub subject : Numbered 255 l n (drop tab l)
-    subject = (subst (NumberAt 255 l 0) is r).2
+    subject : Numbered 255 l n (drop tab l)
+    subject = numbered.2
 
     -- what follows the subject
     behind-subject : (o b : ℕ) (q : List ℕ) → Headed l o b q → drop tab l ≡ 9 ∷ b ∷ 9 ∷ q
@@ -65,19 +56,19 @@ module _ (l : List ℕ) {x : Number} (r : NumberAt 255 l 0 x) where
 
     module _ {t : Bool} (e : t ≡ begins 9 (drop tab l)) where
       -- no tab behind the subject
-      pub head-untabbed : not t ≡ true → HeadAt l head.None
+      pub head-untabbed : not t ≡ true → HeadAt l None
       head-untabbed h o b q k = begins-no l tab 9 e h (b ∷ 9 ∷ q) (behind-subject o b q k)
 
       module _ (h : not t ≡ false) {u : Bool} (f : u ≡ begins 9 (drop (tab + 2) l)) where
         -- no tab behind the verb
-        pub head-unparted : not u ≡ true → HeadAt l head.None
+        pub head-unparted : not u ≡ true → HeadAt l None
         head-unparted g o b q k =
             let w : tab + 1 + 1 ≡ tab + 2 = omega arith in
             let p : drop (tab + 1) l ≡ b ∷ 9 ∷ q = (drop-within l tab 9 (b ∷ 9 ∷ q) (behind-subject o b q k)).1 in
             begins-no l (tab + 2) 9 f g q (rw (← w) (drop-within l (tab + 1) b (9 ∷ q) p).1)
 
         -- subject and verb, each with its tab
-        pub head-found : not u ≡ false → HeadAt l (head.Is n (get_or l (tab + 1) 0) (tab + 3))
+        pub head-found : not u ≡ false → HeadAt l (Some (n, (get_or l (tab + 1) 0), (tab + 3)))
         head-found g =
             let y : Here l (tab + 2) 9 = begins-yes l (tab + 2) 9 f g in
             let w : tab + 1 + 1 ≡ tab + 2 = omega arith in
@@ -97,17 +88,17 @@ bare-other b f g (delete p) h = g h.0
 
 module _ (l : List ℕ) (b at : ℕ) where
   -- the path ends the line: the call has no value
-  pub call-bare : at ≡ length l → (x : CallRead) → BareAs b x → CallAt l b at x
+  pub call-bare : at ≡ length l → (x : Option Call) → BareAs b x → CallAt l b at x
   call-bare h x s = go x s
     where
       end : drop at l ≡ []
       end = drop_of_length-le l {i = at} (omega arith)
 
-      go : (x : CallRead) → BareAs b x → CallAt l b at x
-      go (Is View) s = (omega arith, λ p. rw end (s p l))
-      go (Is (Insert v)) s = absurd (no-empty (s [] l).1.same)
-      go (Is (Update v)) s = absurd (no-empty (s [] l).1.same)
-      go (Is Delete) s = (omega arith, λ p. rw end (s p l))
+      go : (x : Option Call) → BareAs b x → CallAt l b at x
+      go (Some View) s = (omega arith, λ p. rw end (s p l))
+      go (Some (Insert v)) s = absurd (no-empty (s [] l).1.same)
+      go (Some (Update v)) s = absurd (no-empty (s [] l).1.same)
+      go (Some Delete) s = (omega arith, λ p. rw end (s p l))
       go None s = λ o k. s o (rw end at k)
 
   -- a value follows
@@ -131,27 +122,21 @@ module _ (l : List ℕ) (b at : ℕ) where
     pub call-other : (b ≡ 73 → ⊥) → (b ≡ 85 → ⊥) → CallAt l b at None
     call-other f g = value-brought (λ v k. f) (λ v k. g)
 
-    module _ {x : ValueRead} (s : ValueAt l (at + 1) x) where
-      -- no value behind the tab
-      pub call-valueless : x ≡ value.None → CallAt l b at None
-      call-valueless e =
-          let f : ValueAt l (at + 1) value.None = subst (ValueAt l (at + 1)) e s in
-          value-brought (λ v k q. f v k) (λ v k q. f v k)
+    -- no value behind the tab
+    pub call-valueless : ValueAt l (at + 1) None → CallAt l b at None
+    call-valueless f = value-brought (λ v k q. f v k) (λ v k q. f v k)
 
-      module _ {v : Value} (e : x ≡ value.Is v) where
-        valued : ValueAt l (at + 1) (value.Is v)
-        valued = subst (ValueAt l (at + 1)) e s
+    module _ (v : Value) (valued : ValueAt l (at + 1) (Some v)) where
+      bringing : Brought (drop at l) (value_of v l)
+      bringing = record { ranges = valued.1.ranges; same = tabbed ∙ ap (λ (r : List ℕ). 9 ∷ r) valued.1.same }
 
-        bringing : Brought (drop at l) (value_of v l)
-        bringing = record { ranges = valued.1.ranges; same = tabbed ∙ ap (λ (r : List ℕ). 9 ∷ r) valued.1.same }
+      -- the verb of an insertion
+      pub call-insert : b ≡ 73 → CallAt l b at (Some (Insert v))
+      call-insert q = (valued.0, λ p. (q, bringing))
 
-        -- the verb of an insertion
-        pub call-insert : b ≡ 73 → CallAt l b at (Is (Insert v))
-        call-insert q = (valued.0, λ p. (q, bringing))
-
-        -- the verb of an update
-        pub call-update : b ≡ 85 → CallAt l b at (Is (Update v))
-        call-update q = (valued.0, λ p. (q, bringing))
+      -- the verb of an update
+      pub call-update : b ≡ 85 → CallAt l b at (Some (Update v))
+      call-update q = (valued.0, λ p. (q, bringing))
 
 -- ---- a line and the call that it reads as
 
@@ -240,49 +225,32 @@ path-of-call (Update v) p l = refl
 path-of-call Delete p l = refl
 
 -- no call, by the first part that is missing
-module _ (l : List ℕ) {x : Head} (h : HeadAt l x) where
+module _ (l : List ℕ) where
   -- no subject or no verb
-  pub reads-headless : x ≡ head.None → Reading l none
-  reads-headless e c s =
-      subst (HeadAt l) e h c.subject (verb_of c.op) (path_text (path_of c.op) ++ tail_of c.op) (reads-head s)
+  pub reads-headless : HeadAt l None → Reading l none
+  reads-headless f c s = f c.subject (verb_of c.op) (path_text (path_of c.op) ++ tail_of c.op) (reads-head s)
 
-  module _ {s b at : ℕ} (e : x ≡ head.Is s b at) where
-    headed : HeadAt l (head.Is s b at)
-    headed = subst (HeadAt l) e h
-
-    -- where the path begins is within the line
-    pub path-within : at ≤ length l
-    path-within = headed.0
-
+  module _ {s b at : ℕ} (headed : HeadAt l (Some (s, b, at))) where
     -- the path of a call that the line reads as begins behind the head
     path-behind : (c : ScriptCall) → Reads l c → Pathed (drop at l) (path_of c.op) (tail_of c.op)
     path-behind c r = rw (headed-unique headed.1 (reads-head r)).2 (reads-path r)
 
-    module _ (d : List ℕ) {y : Steps} (k : PathAt l at d y) where
+    module _ (d : List ℕ) where
       -- no path
-      pub reads-pathless : y ≡ steps.None → Reading l none
-      reads-pathless f c r = subst (PathAt l at d) f k (path_of c.op) (tail_of c.op) (path-behind c r)
+      pub reads-pathless : PathAt l at d None → Reading l none
+      reads-pathless f c r = f (path_of c.op) (tail_of c.op) (path-behind c r)
 
-      module _ {n next : ℕ} (f : y ≡ steps.Are n next) where
-        pathed : PathAt l at d (steps.Are n next)
-        pathed = subst (PathAt l at d) f k
+      module _ (n : ℕ) {next : ℕ} (pathed : PathAt l at d (Some (n, next))) where
+        -- no call behind the path
+        pub reads-verbless : CallAt l b next None → Reading l none
+        reads-verbless f c r =
+            let v : b ≡ verb_of c.op = (headed-unique headed.1 (reads-head r)).1 in
+            let t : drop next l ≡ tail_of c.op = (pathed-unique (steps_of (take (3 * n) d)) (path_of c.op) pathed.2 (path-behind c r)).1 in
+            f c.op (rw (v, t) (reads-parts r).2)
 
-        -- where the path ends is within the line, and a field ends there
-        pub path-ends : (next ≤ length l) × T (closes (drop next l))
-        path-ends = (pathed.1, pathed.2.ends)
-
-        module _ {z : CallRead} (j : CallAt l b next z) where
-          -- no call behind the path
-          pub reads-verbless : z ≡ None → Reading l none
-          reads-verbless g c r =
-              let v : b ≡ verb_of c.op = (headed-unique headed.1 (reads-head r)).1 in
-              let t : drop next l ≡ tail_of c.op = (pathed-unique (steps_of (take (3 * n) d)) (path_of c.op) pathed.2 (path-behind c r)).1 in
-              subst (CallAt l b next) g j c.op (rw (v, t) (reads-parts r).2)
-
-          -- a line that has all three reads as the call of them
-          pub reads-call : length l ≤ 256 → {c : Call} → z ≡ Is c
-              → Reads l (record { subject = s; op = op_of c (steps_of (take (3 * n) d)) l }) × ((3 * n ≤ 192) × (text_in c ≤ length l))
-          reads-call m {c} g =
-              let o : CallAt l b next (Is c) = subst (CallAt l b next) g j in
-              let p : List Step = steps_of (take (3 * n) d) in
-              (reads_of m (op_of c p l) headed.1 (rw (path-of-call c p l) pathed.2) (o.1 p), (pathed.0, o.0))
+        -- a line that has all three reads as the call of them
+        pub reads-call : length l ≤ 256 → (c : Call) → CallAt l b next (Some c)
+            → Reads l (record { subject = s; op = op_of c (steps_of (take (3 * n) d)) l }) × ((3 * n ≤ 192) × (text_in c ≤ length l))
+        reads-call m c o =
+            let p : List Step = steps_of (take (3 * n) d) in
+            (reads_of m (op_of c p l) headed.1 (rw (path-of-call c p l) pathed.2) (o.1 p), (pathed.0, o.0))

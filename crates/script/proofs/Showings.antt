@@ -1,27 +1,27 @@
 -- Values as they stand at the end of a line.
-use mathlib.Core.Path.{◌≡◌, refl, sym, ap, subst, ◌∙◌}
+use mathlib.Core.Path.{◌≡◌, refl, sym, ap, ◌∙◌}
 use mathlib.Core.Bool.{Bool, true, false, not, ◌&&◌}
 use mathlib.Core.List.{List, [], ◌∷◌, ◌++◌, append-nil}
 use Prim.Native.Nat.{ℕ, ◌+◌, ◌-◌, ◌≤◌, ◌<◌}
 use native.Mathlib.Omega.{arith}
-use lib.ListN.{length, drop, get_or, drop_of_length-le}
+use lib.ListN.{length, take, drop, get_or, length-drop, drop_of_length-le}
+use lib.Seq.{take_all}
 use lib.Dec.{T}
 use mir.Facts.{T_not, ltb_yes, yes_ltb}
-use borrow.Author.Tests.{le-leb, lt-leb, not-false}
+use borrow.Author.Tests.{not-false}
 use Rattle.model.specs.Lists.{all}
 use Rattle.model.specs.Value.{is_printable}
 use Rattle.model.specs.Text.{signed}
 use Rattle.model.specs.Script.{ScriptValue, group, measure, text}
 use Rattle.scan.specs.Text.{begins}
 use Rattle.scan.specs.Numbers.{SignedAt}
-use Rattle.scan.specs.declared.numbers.Number.{Number}
-use Rattle.scan.specs.declared.numbers.Number.TheVariants as number
+use Rattle.std.specs.Prelude.{Option, Some, None}
+use Rattle.std.specs.List.{list_all}
 use Rattle.scan.proofs.Goings.{no-empty, drop_here, drop-within, Here, begins-yes, begins-no}
 use Rattle.scan.proofs.Signs.{signed-unique}
 use Rattle.script.specs.Values.{Valued, ShownAt, ValueAt}
+use Rattle.script.specs.declared.Value.{Value}
 use Rattle.script.specs.declared.Value.TheVariants.{Group, Measure, Text}
-use Rattle.script.specs.declared.values.ValueRead.{ValueRead}
-use Rattle.script.specs.declared.values.ValueRead.TheVariants.{Is, None}
 
 -- ---- a value by its letter
 
@@ -58,7 +58,7 @@ module _ (l : List ℕ) (at : ℕ) {t : Bool} (e : t ≡ begins 45 (drop at l)) 
     group-more k = group-no (drop at l) (λ q. no-empty (sym (drop-within l at 45 [] q).1 ∙ drop_here l (at + 1) k))
 
     -- the line ends with it
-    pub group-found : length l ≤ at + 1 → ShownAt 71 l at (Is Group)
+    pub group-found : length l ≤ at + 1 → ShownAt 71 l at (Some Group)
     group-found k = (
       omega arith,
       record {
@@ -73,15 +73,12 @@ module _ (l : List ℕ) (at : ℕ) {t : Bool} (e : t ≡ begins 45 (drop at l)) 
 measure-no : (t : List ℕ) → ((m : ℕ) → m < 4294967296 → t ≡ signed m ++ [] → ⊥) → (v : ScriptValue) → Valued (77 ∷ 9 ∷ t) v → ⊥
 measure-no t f = value-cases (λ e q. omega arith) (λ e m h q. f m h (q ∙ sym (append-nil (signed m)))) (λ e p. omega arith)
 
-module _ (l : List ℕ) (at : ℕ) {x : Number} (s : SignedAt l at x) where
+module _ (l : List ℕ) (at : ℕ) where
   -- no number
-  pub measure-none : x ≡ number.None → ShownAt 77 l at None
-  measure-none e = measure-no (drop at l) (λ m h. subst (SignedAt l at) e s m [] h tt)
+  pub measure-none : SignedAt l at None → ShownAt 77 l at None
+  measure-none f = measure-no (drop at l) (λ m h. f m [] h tt)
 
-  module _ {m next : ℕ} (e : x ≡ number.Is m next) where
-    there : SignedAt l at (number.Is m next)
-    there = subst (SignedAt l at) e s
-
+  module _ {m next : ℕ} (there : SignedAt l at (Some (m, next))) where
     -- the number fits into a word
     pub measure-fits : m < 4294967296
     measure-fits = there.2
@@ -94,7 +91,7 @@ module _ (l : List ℕ) (at : ℕ) {x : Number} (s : SignedAt l at x) where
         no-empty (sym u.1 ∙ drop_here l next h)
 
     -- the line ends with it
-    pub measure-found : length l ≤ next → ShownAt 77 l at (Is (Measure m))
+    pub measure-found : length l ≤ next → ShownAt 77 l at (Some (Measure m))
     measure-found h =
         let q : drop at l ≡ signed m =
         there.4 ∙ ap (λ (r : List ℕ). signed m ++ r) (drop_of_length-le l {i = next} h) ∙ append-nil (signed m) in
@@ -102,39 +99,14 @@ module _ (l : List ℕ) (at : ℕ) {x : Number} (s : SignedAt l at x) where
 
 -- ---- a text
 
--- the bytes up to i are printable
-pub record Clean (l : List ℕ) (at i : ℕ) : Type 0 where
-  pub within : i ≤ length l
-  pub same : all is_printable (drop at l) ≡ all is_printable (drop i l)
+-- the library's test of every byte is the model's
+pub all-printable : (l : List ℕ) → list_all is_printable l ≡ all is_printable l
+all-printable [] = refl
+all-printable (x ∷ l) = ap (λ (t : Bool). is_printable x && t) (all-printable l)
 
--- no byte is passed
-pub clean-start : (l : List ℕ) (at : ℕ) → at ≤ length l → Clean l at at
-clean-start l at h = record { within = h; same = refl }
-
-module _ {l : List ℕ} {at i : ℕ} (inv : Clean l at i) where
-  module _ (h : i < length l) where
-    clean-here : all is_printable (drop at l) ≡ (is_printable (get_or l i 0) && all is_printable (drop (i + 1) l))
-    clean-here = inv.same ∙ ap (all is_printable) (drop_here l i h)
-
-    -- a byte below those that are printable
-    pub clean-low : get_or l i 0 < 32 → false ≡ all is_printable (drop at l)
-    unfolding is_printable
-    clean-low k = rw (clean-here, lt-leb 32 (get_or l i 0) k)
-
-    module _ (k : 32 ≤ get_or l i 0) where
-      -- a byte above them
-      pub clean-high : 126 < get_or l i 0 → false ≡ all is_printable (drop at l)
-      unfolding is_printable
-      clean-high m = rw (clean-here, le-leb 32 (get_or l i 0) k, lt-leb (get_or l i 0) 126 m)
-
-      -- a byte that is printable
-      pub clean-next : get_or l i 0 ≤ 126 → Clean l at (i + 1)
-      unfolding is_printable
-      clean-next m = record { within = omega arith; same = rw (clean-here, le-leb 32 (get_or l i 0) k, le-leb (get_or l i 0) 126 m) }
-
-  -- all bytes are passed
-  pub clean_end : length l ≤ i → true ≡ all is_printable (drop at l)
-  clean_end h = rw (inv.same, drop_of_length-le l {i = i} h)
+-- the bytes of a line from a place on
+pub line-rest : (l : List ℕ) (at : ℕ) → take (length l - at) (drop at l) ≡ drop at l
+line-rest l at = take_all (length l - at) (drop at l) (omega (arith, length-drop at l))
 
 module _ (l : List ℕ) (at : ℕ) {t : Bool} (e : t ≡ all is_printable (drop at l)) where
   -- a byte is not printable
@@ -143,7 +115,7 @@ module _ (l : List ℕ) (at : ℕ) {t : Bool} (e : t ≡ all is_printable (drop 
       value-cases (λ q r. omega arith) (λ q m k r. omega arith) (λ q k. T_not (all is_printable (drop at l)) k (rw (← e, h) tt))
 
   -- the bytes are a text
-  pub text-found : at ≤ length l → not t ≡ false → ShownAt 84 l at (Is (Text (length l - at)))
+  pub text-found : at ≤ length l → not t ≡ false → ShownAt 84 l at (Some (Text (length l - at)))
   text-found h k =
       let w : length l - (length l - at) ≡ at = omega arith in
       (omega arith, rw w (record { ranges = rw (← e, not-false t k) tt; same = refl }))
@@ -172,8 +144,8 @@ module _ (l : List ℕ) (at : ℕ) where
           ∙ ap (λ (r : List ℕ). get_or l at 0 ∷ r) ((begins-yes l (at + 1) 9 e h).is ∙ ap (λ (i : ℕ). 9 ∷ drop i l) w)
 
       -- what is read behind the letter k and the tab is read there
-      pub value-shown : (k : ℕ) → get_or l at 0 ≡ k → (x : ValueRead) → ShownAt k l (at + 2) x → ValueAt l at x
-      value-shown k q (Is v) s = (s.0, rw (lettered, q) s.1)
+      pub value-shown : (k : ℕ) → get_or l at 0 ≡ k → (x : Option Value) → ShownAt k l (at + 2) x → ValueAt l at x
+      value-shown k q (Some v) s = (s.0, rw (lettered, q) s.1)
       value-shown k q None s = λ v y. s v (rw (lettered, q) at y)
 
       -- no such letter

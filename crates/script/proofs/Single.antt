@@ -1,4 +1,5 @@
 -- A line has one result that meets the contract of `read_line`.
+use Rattle.std.specs.Prelude.{Option, Some, None}
 use mathlib.Core.Path.{◌≡◌, refl, sym, ap, ◌∙◌}
 use mathlib.Core.List.{List}
 use Prim.Native.Nat.{ℕ, suc, ◌-◌, ◌*◌, ◌≤◌}
@@ -15,8 +16,6 @@ use Rattle.script.specs.declared.Value.TheVariants.{Group, Measure, Text}
 use Rattle.script.specs.declared.Call.{Call}
 use Rattle.script.specs.declared.Call.TheVariants.{View, Insert, Update, Delete}
 use Rattle.script.specs.declared.Read.{Read}
-use Rattle.script.specs.declared.Line.{Line}
-use Rattle.script.specs.declared.Line.TheVariants as line
 use Rattle.path.proofs.Buffers.{by-threes}
 use Rattle.script.proofs.Callings.{path_of, path-of-call}
 
@@ -56,7 +55,7 @@ module _ (l : List ℕ) where
   abbrev call_in : Read → List ℕ → ScriptCall
   call_in r b = record { subject = r.subject; op = op_of r.call (steps_in r b) l }
 
-  same_read : (r s : Read) (b c : List ℕ) → 192 ≤ length b → 192 ≤ length c → Spans (line.Call r) 192 (length l) → Spans (line.Call s) 192 (length l)
+  same_read : (r s : Read) (b c : List ℕ) → 192 ≤ length b → 192 ≤ length c → Spans (Some r) 192 (length l) → Spans (Some s) 192 (length l)
       → call_in r b ≡ call_in s c → r ≡ s
   same_read r s b c h k x y e =
       let i : r.subject ≡ s.subject = ap (λ (d : ScriptCall). d.subject) e in
@@ -67,10 +66,10 @@ module _ (l : List ℕ) where
       λ t. record { subject = i t; steps = j t; call = u t }
 
   -- two results for one line are the same
-  pub read-unique : (x y : Line) (b c : List ℕ) → 192 ≤ length b → 192 ≤ length c → Reading l (reading_of x b l) → Reading l (reading_of y c l)
+  pub read-unique : (x y : Option Read) (b c : List ℕ) → 192 ≤ length b → 192 ≤ length c → Reading l (reading_of x b l) → Reading l (reading_of y c l)
       → Spans x 192 (length l) → Spans y 192 (length l) → x ≡ y
-  read-unique line.None line.None b c h k p q s t = refl
-  read-unique line.None (line.Call r) b c h k p q s t = absurd (p (call_in r c) q)
-  read-unique (line.Call r) line.None b c h k p q s t = absurd (q (call_in r b) p)
-  read-unique (line.Call r) (line.Call u) b c h k p q s t =
-      ap line.Call (same_read r u b c h k s t (text-injective (call_in r b) (call_in u c) p.ranges q.ranges (sym p.same ∙ q.same)))
+  read-unique None None b c h k p q s t = refl
+  read-unique None (Some r) b c h k p q s t = absurd (p (call_in r c) q)
+  read-unique (Some r) None b c h k p q s t = absurd (q (call_in r b) p)
+  read-unique (Some r) (Some u) b c h k p q s t =
+      ap Some (same_read r u b c h k s t (text-injective (call_in r b) (call_in u c) p.ranges q.ranges (sym p.same ∙ q.same)))

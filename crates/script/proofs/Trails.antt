@@ -1,5 +1,5 @@
 -- Steps and paths as they stand in a line.
-use mathlib.Core.Path.{◌≡◌, refl, sym, ap, ap₂, subst, ◌∙◌}
+use mathlib.Core.Path.{◌≡◌, refl, sym, ap, ap₂, ◌∙◌}
 use mathlib.Core.Bool.{Bool, true, false, not, ◌&&◌}
 use mathlib.Core.List.{List, [], ◌∷◌, ◌++◌, append_assoc}
 use Prim.Native.Nat.{ℕ, suc, ◌+◌, ◌-◌, ◌*◌, ◌≤◌, ◌<◌}
@@ -15,16 +15,11 @@ use Rattle.model.specs.Script.{step_text, path_text, path_in_range}
 use Rattle.model.proofs.Bools.{and_l, and_r, both}
 use Rattle.scan.specs.Text.{begins, no_digit}
 use Rattle.scan.specs.Numbers.{Numbered, NumberAt}
-use Rattle.scan.specs.declared.numbers.Number.{Number}
-use Rattle.scan.specs.declared.numbers.Number.TheVariants as number
+use Rattle.std.specs.Prelude.{Option, Some, None}
 use Rattle.scan.proofs.Goings.{Here, begins-yes, begins-no}
 use Rattle.scan.proofs.Numerals.{numbered-unique, decimal-begins}
 use Rattle.script.specs.Text.{closes}
 use Rattle.script.specs.Paths.{Stepped, StepAt, Pathed, StepsAt, PathAt}
-use Rattle.script.specs.declared.paths.StepRead.{StepRead}
-use Rattle.script.specs.declared.paths.StepRead.TheVariants as found
-use Rattle.script.specs.declared.paths.Steps.{Steps}
-use Rattle.script.specs.declared.paths.Steps.TheVariants.{Are, None}
 use Rattle.path.specs.Steps.{put_step}
 use Rattle.path.proofs.Buffers.{length-put, steps-put}
 
@@ -47,46 +42,42 @@ stepped-unique {r = r} {q = q} {a = a} {b = b} s t =
 
 -- ---- a step at a place of a line
 
-module _ (l : List ℕ) (at : ℕ) {x : Number} (named : NumberAt 65535 l at x) where
+module _ (l : List ℕ) (at : ℕ) where
   -- no name there
-  pub step-nameless : x ≡ number.None → StepAt l at found.None
-  step-nameless e a r s = subst (NumberAt 65535 l at) e named a.name (58 ∷ (decimal a.label ++ r)) (step-name s)
+  pub step-nameless : NumberAt 65535 l at None → StepAt l at None
+  step-nameless f a r s = f a.name (58 ∷ (decimal a.label ++ r)) (step-name s)
 
-  module _ {n colon : ℕ} (name-is : x ≡ number.Is n colon) {t : Bool} (e : t ≡ begins 58 (drop colon l)) where
-    name-read : NumberAt 65535 l at (number.Is n colon)
-    name-read = subst (NumberAt 65535 l at) name-is named
-
+  module _ {n colon : ℕ} (named : NumberAt 65535 l at (Some (n, colon))) {t : Bool} (e : t ≡ begins 58 (drop colon l)) where
     -- what follows the name of a step there
     behind-name : (a : Step) (r : List ℕ) → Stepped (drop at l) a r → drop colon l ≡ 58 ∷ (decimal a.label ++ r)
-    behind-name a r s = (numbered-unique name-read.2 (step-name s)).1
+    behind-name a r s = (numbered-unique named.2 (step-name s)).1
 
     -- no colon behind it
-    pub step-alone : not t ≡ true → StepAt l at found.None
+    pub step-alone : not t ≡ true → StepAt l at None
     step-alone h a r s = begins-no l colon 58 e h (decimal a.label ++ r) (behind-name a r s)
 
-    module _ (h : not t ≡ false) {y : Number} (labelled : NumberAt 255 l (colon + 1) y) where
+    module _ (h : not t ≡ false) where
       -- no label behind the colon
-      pub step-unlabelled : y ≡ number.None → StepAt l at found.None
+      pub step-unlabelled : NumberAt 255 l (colon + 1) None → StepAt l at None
       step-unlabelled f a r s =
           let q : drop (colon + 1) l ≡ decimal a.label ++ r = cc (sym (begins-yes l colon 58 e h).is ∙ behind-name a r s) in
-          subst (NumberAt 255 l (colon + 1)) f labelled a.label r (record { small = s.label-fits; ends = s.ends; same = q })
+          f a.label r (record { small = s.label-fits; ends = s.ends; same = q })
 
       -- a name, a colon and a label
-      pub step-found : {m next : ℕ} → y ≡ number.Is m next → StepAt l at (found.Is n m next)
+      pub step-found : {m next : ℕ} → NumberAt 255 l (colon + 1) (Some (m, next)) → StepAt l at (Some (n, m, next))
       unfolding step_text
-      step-found {m} {next} f =
-          let k : NumberAt 255 l (colon + 1) (number.Is m next) = subst (NumberAt 255 l (colon + 1)) f labelled in (
-            omega (arith, name-read.0, k.0),
-            k.1,
-            record {
-              name-fits = name-read.2.small;
-              label-fits = k.2.small;
-              ends = k.2.ends;
-              same =
-                  name-read.2.same ∙ ap (λ (r : List ℕ). decimal n ++ r) ((begins-yes l colon 58 e h).is ∙ ap (λ (r : List ℕ). 58 ∷ r) k.2.same)
-                  ∙ sym (append_assoc (decimal n) (58 ∷ decimal m) (drop next l));
-            },
-          )
+      step-found {m} {next} k = (
+        omega (arith, named.0, k.0),
+        k.1,
+        record {
+          name-fits = named.2.small;
+          label-fits = k.2.small;
+          ends = k.2.ends;
+          same =
+              named.2.same ∙ ap (λ (r : List ℕ). decimal n ++ r) ((begins-yes l colon 58 e h).is ∙ ap (λ (r : List ℕ). 58 ∷ r) k.2.same)
+              ∙ sym (append_assoc (decimal n) (58 ∷ decimal m) (drop next l));
+        },
+      )
 
 -- ---- steps parted by /
 
@@ -216,15 +207,12 @@ pub record Trail (l : List ℕ) (at : ℕ) (c b : List ℕ) (i n : ℕ) : Type 0
 pub trail-start : (l : List ℕ) (at : ℕ) (b : List ℕ) → at ≤ length l → Trail l at b b at 0
 trail-start l at b h = record { walk = walk_start (drop at l); within = h; passed = omega arith; size = refl }
 
-module _ {l : List ℕ} {at : ℕ} {c b : List ℕ} {i n : ℕ} (inv : Trail l at c b i n) {x : StepRead} (there : StepAt l i x) where
+module _ {l : List ℕ} {at : ℕ} {c b : List ℕ} {i n : ℕ} (inv : Trail l at c b i n) where
   -- no step is left
-  pub trail-none : x ≡ found.None → (a : Step) (p : List Step) (r : List ℕ) → Pathed (drop at l) (a ∷ p) r → ⊥
-  trail-none e = walk_none inv.walk (subst (StepAt l i) e there)
+  pub trail-none : StepAt l i None → (a : Step) (p : List Step) (r : List ℕ) → Pathed (drop at l) (a ∷ p) r → ⊥
+  trail-none = walk_none inv.walk
 
-  module _ (short : length l ≤ 256) (room : 192 ≤ length c) {name label next : ℕ} (step_is : x ≡ found.Is name label next) where
-    step : StepAt l i (found.Is name label next)
-    step = subst (StepAt l i) step_is there
-
+  module _ (short : length l ≤ 256) (room : 192 ≤ length c) {name label next : ℕ} (step : StepAt l i (Some (name, label, next))) where
     -- the buffer has room for the step, whose numbers fit
     pub trail-room : (3 * n + 3 ≤ length b) × ((name ≤ 65535) × (label ≤ 255))
     trail-room = (omega (arith, inv.passed, inv.size, step.0, step.1), (step.2.name-fits, step.2.label-fits))
@@ -243,7 +231,7 @@ module _ {l : List ℕ} {at : ℕ} {c b : List ℕ} {i n : ℕ} (inv : Trail l a
 
       module _ {t : Bool} (e : t ≡ closes (drop next l)) where
         -- the step is the last
-        pub trail-end : t ≡ true → StepsAt l at d (Are (n + 1) next)
+        pub trail-end : t ≡ true → StepsAt l at d (Some (n + 1, next))
         trail-end h =
             let k : T (closes (drop next l)) = rw (← e, h) tt in
             (omega (arith, inv.passed, step.0, step.1), step.1, rw put-steps (walk_end inv.walk step.2 k))
@@ -274,11 +262,11 @@ number-slash {n = n} {r = r} s e = decimal-begins 47 tt n r (ap (begins 47) (sym
 
 module _ (l : List ℕ) (at : ℕ) {t : Bool} (e : t ≡ begins 47 (drop at l)) where
   -- no / there: the path is its steps
-  pub path-steps : not t ≡ true → (b : List ℕ) (x : Steps) → StepsAt l at b x → PathAt l at b x
+  pub path-steps : not t ≡ true → (b : List ℕ) (x : Option (ℕ × ℕ)) → StepsAt l at b x → PathAt l at b x
   path-steps h b x s = go x s
     where
-      go : (x : Steps) → StepsAt l at b x → PathAt l at b x
-      go (Are n next) s = s
+      go : (x : Option (ℕ × ℕ)) → StepsAt l at b x → PathAt l at b x
+      go (Some (n, next)) s = s
       go None s = none
         where
           none : (p : List Step) (r : List ℕ) → Pathed (drop at l) p r → ⊥
@@ -297,7 +285,7 @@ module _ (l : List ℕ) (at : ℕ) {t : Bool} (e : t ≡ begins 47 (drop at l)) 
     path-open g (a ∷ p) r k = number-slash (step-name (path-first a p k)) (sym e ∙ not-false t h)
 
     -- a lone /
-    pub path-root : not u ≡ false → (b : List ℕ) → PathAt l at b (Are 0 (at + 1))
+    pub path-root : not u ≡ false → (b : List ℕ) → PathAt l at b (Some (0, (at + 1)))
     path-root g b = (omega arith, omega (arith, slash.within), record { ranges = tt; ends = rw (← f, not-false u g) tt; same = slash.is })
 
 -- ---- a path is read in one way

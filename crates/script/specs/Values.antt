@@ -1,11 +1,9 @@
 -- Values in a line.
-use Rattle.std.specs.Prelude.{◌≡◌, List, ◌∷◌, ℕ, ◌-◌, ◌≤◌, length, drop, T}
+use Rattle.std.specs.Prelude.{◌≡◌, List, ◌∷◌, ℕ, ◌-◌, ◌≤◌, length, drop, T, Option, Some, None}
 use Rattle.model.specs.Lists.{joined}
 use Rattle.model.specs.Script.{ScriptValue, group, measure, text, value_fields, value_in_range}
 use Rattle.script.specs.declared.Value.{Value}
 use Rattle.script.specs.declared.Value.TheVariants.{Group, Measure, Text}
-use Rattle.script.specs.declared.values.ValueRead.{ValueRead}
-use Rattle.script.specs.declared.values.ValueRead.TheVariants.{Is, None}
 
 -- the value that a line's code stands for: a text is the last bytes of the line
 abbrev pub value_of : Value → List ℕ → ScriptValue
@@ -25,11 +23,11 @@ pub record Valued (l : List ℕ) (v : ScriptValue) : Type 0 where
   pub same : l ≡ joined 9 (value_fields v)
 
 -- what a value read behind the letter k and a tab says
-abbrev pub ShownAt : ℕ → List ℕ → ℕ → ValueRead → Type 0
-ShownAt k l at (Is v) = (text_length v ≤ length l) × Valued (k ∷ 9 ∷ drop at l) (value_of v l)
+abbrev pub ShownAt : ℕ → List ℕ → ℕ → Option Value → Type 0
+ShownAt k l at (Some v) = (text_length v ≤ length l) × Valued (k ∷ 9 ∷ drop at l) (value_of v l)
 ShownAt k l at None = (v : ScriptValue) → Valued (k ∷ 9 ∷ drop at l) v → ⊥
 
 -- what a value read at a place says
-abbrev pub ValueAt : List ℕ → ℕ → ValueRead → Type 0
-ValueAt l at (Is v) = (text_length v ≤ length l) × Valued (drop at l) (value_of v l)
+abbrev pub ValueAt : List ℕ → ℕ → Option Value → Type 0
+ValueAt l at (Some v) = (text_length v ≤ length l) × Valued (drop at l) (value_of v l)
 ValueAt l at None = (v : ScriptValue) → Valued (drop at l) v → ⊥

@@ -10,11 +10,8 @@ mod paths;
 mod places;
 mod values;
 
-use paths::Steps;
-use scan::Number;
-use values::ValueRead;
-
-// A value: a group, a measure's 32 bits, or the length of a text, whose bytes are the last of the line.
+// A value: a group, a measure's 32 bits, or the length of a text, whose bytes are the last of the line. It is no part of the line, as
+// only without a place in memory are two readings of one line equal (read-unique, in proofs).
 #[derive(Drop)]
 pub enum Value {
     Group,
@@ -31,7 +28,7 @@ pub enum Call {
     Delete,
 }
 
-// A call with its subject, and how many steps its path has, which stand in the buffer, three bytes each.
+// A call with its subject, and how many steps its path has, which stand in the buffer, three bytes each: a number for the same reason.
 #[derive(Drop)]
 pub struct Read {
     pub subject: u32,
@@ -39,70 +36,42 @@ pub struct Read {
     pub call: Call,
 }
 
-// What a line reads as.
-#[derive(Drop)]
-pub enum Line {
-    Call(Read),
-    None,
-}
-
-// A call of which the subject and the path are read.
-#[derive(Drop)]
-enum CallRead {
-    Is(Call),
-    None,
-}
-
-// The subject and the verb of a line, and where its path begins.
-#[derive(Drop)]
-enum Head {
-    Is(u32, u8, usize),
-    None,
-}
-
-// Reads a line, its byte 10 not counted. The path's steps are written into the buffer, of whose other bytes nothing is said.
-pub fn read_line(line: &[u8], path: &mut [u8]) -> Line
+// Reads a line, its byte 10 not counted, if it reads as a call. The path's steps are written into the buffer, of whose other bytes
+// nothing is said.
+pub fn read_line(line: &[u8], path: &mut [u8]) -> Option<Read>
     requires { 192 ≤ length path.old }
     ensures reading { Reading line.now (reading_of result path.new line.now) }
     ensures spans { Spans result 192 (length line.now) }
 {
     if 256 < line.len() {
-        return Line::None;
+        return None;
     }
-    let Head::Is(subject, verb, at) = head_of(line) else {
-        return Line::None;
-    };
-    let Steps::Are(steps, next) = paths::path_at(line, at, path) else {
-        return Line::None;
-    };
-    let CallRead::Is(call) = call_at(line, verb, next) else {
-        return Line::None;
-    };
-    Line::Call(Read {
+    let (subject, verb, at) = head_of(line)?;
+    let (steps, next) = paths::path_at(line, at, path)?;
+    let call = call_at(line, verb, next)?;
+    Some(Read {
         subject,
         steps,
         call,
     })
 }
 
-// The subject, a tab, the verb and a tab.
-fn head_of(line: &[u8]) -> Head
+// The subject, a tab, the verb and a tab: the subject and the verb, and where the path begins.
+fn head_of(line: &[u8]) -> Option<(u32, u8, usize)>
     ensures { HeadAt line.now result }
 {
-    let Number::Is(subject, tab) = scan::number_at(line, 0, 255) else {
-        return Head::None;
-    };
+    let (subject, tab) = scan::number_at(line, 0, 255)?;
     if !scan::holds(line, tab, b'\t') {
-        return Head::None;
+        return None;
     }
     if !scan::holds(line, tab + 2, b'\t') {
-        return Head::None;
+        return None;
     }
-    Head::Is(subject as u32, line[tab + 1], tab + 3)
+    Some((subject as u32, line[tab + 1], tab + 3))
 }
 
 // The call of a verb, whose path ends at at.
-fn call_at(line: &[u8], verb: u8, at: usize) -> CallRead
+fn call_at(line: &[u8], verb: u8, at: usize) -> Option<Call>
     requires at_in_bounds { at ≤ length line.now }
     requires t { T (closes (drop at line.now)) }
     ensures { CallAt line.now verb at result }
@@ -110,23 +79,21 @@ fn call_at(line: &[u8], verb: u8, at: usize) -> CallRead
     if at == line.len() {
         return bare(verb);
     }
-    let ValueRead::Is(value) = values::value_at(line, at + 1) else {
-        return CallRead::None;
-    };
+    let value = values::value_at(line, at + 1)?;
     match verb {
-        b'I' => CallRead::Is(Call::Insert(value)),
-        b'U' => CallRead::Is(Call::Update(value)),
-        _ => CallRead::None,
+        b'I' => Some(Call::Insert(value)),
+        b'U' => Some(Call::Update(value)),
+        _ => None,
     }
 }
 
 // The call of a verb that has no value.
-fn bare(verb: u8) -> CallRead
+fn bare(verb: u8) -> Option<Call>
     ensures { BareAs verb result }
 {
     match verb {
-        b'V' => CallRead::Is(Call::View),
-        b'D' => CallRead::Is(Call::Delete),
-        _ => CallRead::None,
+        b'V' => Some(Call::View),
+        b'D' => Some(Call::Delete),
+        _ => None,
     }
 }

@@ -3,41 +3,23 @@ ghost use Rattle.std.specs.Prelude.{◌≤◌, length};
 ghost use Rattle.script.specs.Paths.{StepAt, StepsAt, PathAt};
 
 use crate::places;
-use scan::Number;
 
-// A step's name and label, and where it ends.
-#[derive(Drop)]
-enum StepRead {
-    Is(u64, u64, usize),
-    None,
-}
-
-// How many steps there are, and where they end.
-#[derive(Drop)]
-pub enum Steps {
-    Are(usize, usize),
-    None,
-}
-
-// The step that begins at at.
-fn step_at(line: &[u8], at: usize) -> StepRead
+// The step that begins at at: its name and label, and where it ends.
+fn step_at(line: &[u8], at: usize) -> Option<(u64, u64, usize)>
     requires { at ≤ length line.now }
     ensures { StepAt line.now at result }
 {
-    let Number::Is(name, colon) = scan::number_at(line, at, 65535) else {
-        return StepRead::None;
-    };
+    let (name, colon) = scan::number_at(line, at, 65535)?;
     if !scan::holds(line, colon, b':') {
-        return StepRead::None;
+        return None;
     }
-    let Number::Is(label, next) = scan::number_at(line, colon + 1, 255) else {
-        return StepRead::None;
-    };
-    StepRead::Is(name, label, next)
+    let (label, next) = scan::number_at(line, colon + 1, 255)?;
+    Some((name, label, next))
 }
 
-// The steps that begin at at, one or more, up to a tab or the line's end.
-fn steps_at(line: &[u8], at: usize, path: &mut [u8]) -> Steps
+// The steps that begin at at, one or more, up to a tab or the line's end: how many, and where they end. It loops by a place of its own,
+// as only the end of a step tells where the next begins: an iterator would need a type for it, and is no plainer.
+fn steps_at(line: &[u8], at: usize, path: &mut [u8]) -> Option<(usize, usize)>
     requires at_in_bounds { (at ≤ length line.now) × (length line.now ≤ 256) }
     requires in_bounds { 192 ≤ length path.old }
     ensures { StepsAt line.now at path.new result }
@@ -45,23 +27,21 @@ fn steps_at(line: &[u8], at: usize, path: &mut [u8]) -> Steps
     let mut i = at;
     let mut n: usize = 0;
     loop {
-        let StepRead::Is(name, label, next) = step_at(line, i) else {
-            return Steps::None;
-        };
+        let (name, label, next) = step_at(line, i)?;
         path::put_step(path, n, name, label);
         n += 1;
         if places::is_closed(line, next) {
-            return Steps::Are(n, next);
+            return Some((n, next));
         }
         if !scan::holds(line, next, b'/') {
-            return Steps::None;
+            return None;
         }
         i = next + 1;
     }
 }
 
-// The path that begins at at, up to a tab or the line's end.
-pub fn path_at(line: &[u8], at: usize, path: &mut [u8]) -> Steps
+// The path that begins at at, up to a tab or the line's end: how many steps it has, and where it ends.
+pub fn path_at(line: &[u8], at: usize, path: &mut [u8]) -> Option<(usize, usize)>
     requires at_in_bounds { (at ≤ length line.now) × (length line.now ≤ 256) }
     requires in_bounds { 192 ≤ length path.old }
     ensures { PathAt line.now at path.new result }
@@ -70,7 +50,7 @@ pub fn path_at(line: &[u8], at: usize, path: &mut [u8]) -> Steps
         return steps_at(line, at, path);
     }
     if !places::is_closed(line, at + 1) {
-        return Steps::None;
+        return None;
     }
-    Steps::Are(0, at + 1)
+    Some((0, at + 1))
 }

@@ -6,8 +6,5 @@ ghost use Rattle.script.specs.Text.{closes};
 pub fn is_closed(line: &[u8], at: usize) -> bool
     ensures { result ≡ closes (drop at line.now) }
 {
-    if line.len() <= at {
-        return true;
-    }
-    line[at] == b'\t'
+    line.len() <= at || line[at] == b'\t'
 }

@@ -5,27 +5,17 @@ ghost use Rattle.model.specs.Value.{is_printable};
 ghost use Rattle.script.specs.Values.{ShownAt, ValueAt};
 
 use crate::Value;
-use scan::Number;
-
-// A value, if one stands there.
-#[derive(Drop)]
-pub enum ValueRead {
-    Is(Value),
-    None,
-}
 
 // A measure: a number of 32 signed bits that ends with the line.
-fn measure_at(line: &[u8], at: usize) -> ValueRead
+fn measure_at(line: &[u8], at: usize) -> Option<Value>
     requires { at ≤ length line.now }
     ensures { ShownAt 77 line.now at result }
 {
-    let Number::Is(m, next) = scan::signed_at(line, at) else {
-        return ValueRead::None;
-    };
+    let (m, next) = scan::signed_at(line, at)?;
     if next < line.len() {
-        return ValueRead::None;
+        return None;
     }
-    ValueRead::Is(Value::Measure(m as u32))
+    Some(Value::Measure(m as u32))
 }
 
 // Whether each byte from at on is printable.
@@ -33,58 +23,48 @@ fn is_printable(line: &[u8], at: usize) -> bool
     requires { at ≤ length line.now }
     ensures { result ≡ all is_printable (drop at line.now) }
 {
-    let mut i = at;
-    while i < line.len() {
-        if line[i] < 32 {
-            return false;
-        }
-        if 126 < line[i] {
-            return false;
-        }
-        i += 1;
-    }
-    true
+    line[at..].iter().all(|x| matches!(*x, b' '..=b'~'))
 }
 
 // A text: printable bytes, of any number.
-fn text_at(line: &[u8], at: usize) -> ValueRead
+fn text_at(line: &[u8], at: usize) -> Option<Value>
     requires { at ≤ length line.now }
     ensures { ShownAt 84 line.now at result }
 {
     if !is_printable(line, at) {
-        return ValueRead::None;
+        return None;
     }
-    ValueRead::Is(Value::Text(line.len() - at))
+    Some(Value::Text(line.len() - at))
 }
 
 // A group: a minus sign alone.
-fn group_at(line: &[u8], at: usize) -> ValueRead
+fn group_at(line: &[u8], at: usize) -> Option<Value>
     ensures { ShownAt 71 line.now at result }
 {
     if !scan::holds(line, at, b'-') {
-        return ValueRead::None;
+        return None;
     }
     if at + 1 < line.len() {
-        return ValueRead::None;
+        return None;
     }
-    ValueRead::Is(Value::Group)
+    Some(Value::Group)
 }
 
 // The value at a line's end.
-pub fn value_at(line: &[u8], at: usize) -> ValueRead
+pub fn value_at(line: &[u8], at: usize) -> Option<Value>
     requires { at ≤ length line.now }
     ensures { ValueAt line.now at result }
 {
     if line.len() <= at {
-        return ValueRead::None;
+        return None;
     }
     if !scan::holds(line, at + 1, b'\t') {
-        return ValueRead::None;
+        return None;
     }
     match line[at] {
         b'G' => group_at(line, at + 2),
         b'M' => measure_at(line, at + 2),
         b'T' => text_at(line, at + 2),
-        _ => ValueRead::None,
+        _ => None,
     }
 }

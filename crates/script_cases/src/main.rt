@@ -7,6 +7,7 @@ use std::fs::File;
 use std::io::Write;
 use std::rt::Env;
 
+// The scripts of all arguments. By a count: no bound is known by which the arguments end.
 fn main(rt: HostRuntime) {
     for i in 1..usize::MAX {
         if !one(&rt, i) {
@@ -40,7 +41,7 @@ fn carry_out(rt: &HostRuntime, path: &str) {
     match File::open(rt, path) {
         Ok(mut file) => {
             let mut store = [0u8; 41088];
-            console::run(&mut file, &mut rt.stdout(), &mut store);
+            let _ = console::run(&mut file, &mut rt.stdout(), &mut store);
         }
         Err(error) => tell_failed(&mut rt.stderr(), path.as_bytes(), error),
     }

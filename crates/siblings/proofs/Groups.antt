@@ -1,12 +1,12 @@
 -- The elements of a group, one at a time and a block at a time.
-use mathlib.Core.Path.{◌≡◌, refl, sym, ap, subst, ◌∙◌}
+use mathlib.Core.Path.{◌≡◌, refl, sym, ap, ◌∙◌}
 use mathlib.Core.Bool.{Bool, true, false, not, ◌&&◌}
-use mathlib.Core.Option.{Option}
+use mathlib.Core.Option as logic
 use mathlib.Core.List.{List, [], ◌∷◌, ◌++◌}
 use Prim.Native.Nat.{ℕ, ◌+◌, ◌≤◌, ◌<◌}
 use native.Mathlib.Omega.{arith}
 use lib.ListN.{length, take, drop, set}
-use lib.Seq.{append_snoc}
+use lib.Seq.{append_snoc, take_all}
 use lib.Dec.{eqb}
 use borrow.Author.Tests.{not-true, not-false}
 use Rattle.model.specs.Lists.{any}
@@ -20,10 +20,7 @@ use Rattle.siblings.specs.Differing.{Inside, DifferAt}
 use Rattle.siblings.specs.Keys.{keys_of, fresh, distinct, Opens, KeyAt}
 use Rattle.siblings.specs.Skips.{skipped, Skipped}
 use Rattle.siblings.specs.Blocks.{Kept, BlockAt, OthersDiffer}
-use Rattle.siblings.specs.declared.keys.KeyRead.{KeyRead}
-use Rattle.siblings.specs.declared.keys.KeyRead.TheVariants as key
-use Rattle.siblings.specs.declared.blocks.Block.{Block}
-use Rattle.siblings.specs.declared.blocks.Block.TheVariants as block
+use Rattle.std.specs.Prelude.{Some, None}
 use Rattle.siblings.proofs.Distinct.{distinct_append, fresh-not, fresh-yes, distinct-not, distinct_more, put-more, form-differ}
 use Rattle.siblings.proofs.Passing.{over-element}
 
@@ -37,17 +34,17 @@ record Led (l : List ℕ) (at k : ℕ) (f : Forest) : Type 0 where
 
 module _ (l : List ℕ) (at : ℕ) where
   -- it opens with its step
-  first-opens : (a : Step) (c : Option Content) (i b : Forest) → Inside l at (element a c i b) → Opens (drop at l) a
+  first-opens : (a : Step) (c : logic.Option Content) (i b : Forest) → Inside l at (element a c i b) → Opens (drop at l) a
   first-opens a c i b s =
       record { content = c; inside = i; behind = b; rest = end_tag s.name ++ s.behind; valid = (form-parts s.depth a c i b s.form).step; same = s.same }
 
   -- no key is read: there is none
-  none-there : KeyAt l at key.None → (f : Forest) → Inside l at f → f ≡ empty
+  none-there : KeyAt l at None → (f : Forest) → Inside l at f → f ≡ empty
   none-there r empty s = refl
   none-there r (element a c i b) s = absurd (r a (first-opens a c i b s))
 
   -- a key is read: it is the first one's
-  one-there : (k : ℕ) → KeyAt l at (key.Is k) → (f : Forest) → Inside l at f → Led l at k f
+  one-there : (k : ℕ) → KeyAt l at (Some k) → (f : Forest) → Inside l at f → Led l at k f
   one-there k r empty s = absurd (r.1 s.name s.behind s.same)
   one-there k r (element a c i b) s =
       record {
@@ -63,16 +60,6 @@ module _ (l : List ℕ) (at : ℕ) where
               same = t.same ∙ ap (skipped 0) s.same ∙ over-element a c i b (end_tag s.name ++ s.behind);
             };
       }
-
--- a key that was read
-module _ (l : List ℕ) (i : ℕ) {x : KeyRead} (read : KeyAt l i x) {k : ℕ} (is : x ≡ key.Is k) where
-  -- stands within the text
-  pub next-within : i < length l
-  next-within = (subst (KeyAt l i) is read).0
-
-  -- and is the first one's
-  next-led : (f : Forest) → Inside l i f → Led l i k f
-  next-led = one-there l i k (subst (KeyAt l i) is read)
 
 -- ---- a block
 
@@ -95,50 +82,49 @@ filled-start l at ks h =
 
 module _ {l : List ℕ} {at : ℕ} {ks : List ℕ} {i n : ℕ} (inv : Filled l at ks i n) where
   -- as many are as a block has
-  pub filled-full : 512 ≤ n → BlockAt l at ks (block.Is n i)
+  pub filled-full : 512 ≤ n → BlockAt l at ks (Some (n, i))
   filled-full h = (inv.from, inv.within, inv.few, inv.kept, λ less. absurd (omega arith))
 
-  module _ {x : KeyRead} (read : KeyAt l i x) where
-    -- no tree is left
-    pub filled-all : x ≡ key.None → BlockAt l at ks (block.Is n i)
-    filled-all e = (inv.from, inv.within, inv.few, inv.kept, λ less. none-there l i (subst (KeyAt l i) e read))
+  -- no tree is left
+  pub filled-all : KeyAt l i None → BlockAt l at ks (Some (n, i))
+  filled-all read = (inv.from, inv.within, inv.few, inv.kept, λ less. none-there l i read)
 
-    module _ {k : ℕ} (is : x ≡ key.Is k) {t : Bool} (e : t ≡ any (eqb k) (take n ks)) where
-      -- the keys of the trees: those kept, k, and those of the trees behind
-      keys-split : (f : Forest) → Inside l at f → (g : Kept l ks n i f) × (o : Led l i k g.rest) × (keys_of f ≡ take n ks ++ (k ∷ keys_of o.rest))
-      keys-split f s =
-          let g = inv.kept f s in
-          let o = next-led l i read is g.rest g.inside in
-          (g, o, g.whole ∙ ap (λ (q : List ℕ). take n ks ++ q) o.keys)
+  module _ {k : ℕ} (read : KeyAt l i (Some k)) {t : Bool} (e : t ≡ any (eqb k) (take n ks)) where
+    -- the keys of the trees: those kept, k, and those of the trees behind
+    keys-split : (f : Forest) → Inside l at f → (g : Kept l ks n i f) × (o : Led l i k g.rest) × (keys_of f ≡ take n ks ++ (k ∷ keys_of o.rest))
+    keys-split f s =
+        let g = inv.kept f s in
+        let o = one-there l i k read g.rest g.inside in
+        (g, o, g.whole ∙ ap (λ (q : List ℕ). take n ks ++ q) o.keys)
 
-      -- k is kept
-      pub filled-clash : t ≡ true → BlockAt l at ks block.None
-      filled-clash h f s =
-          let w = keys-split f s in
-          ap distinct w.2 ∙ distinct-not (take n ks) k e w.0.differs h (keys_of w.1.rest)
+    -- k is kept
+    pub filled-clash : t ≡ true → BlockAt l at ks None
+    filled-clash h f s =
+        let w = keys-split f s in
+        ap distinct w.2 ∙ distinct-not (take n ks) k e w.0.differs h (keys_of w.1.rest)
 
-      -- it is put to them
-      pub filled_next : t ≡ false → length ks ≡ 512 → n < 512 → {j : ℕ} → Skipped l i j → Filled l at (set ks n k) j (n + 1)
-      filled_next h size m {j} u =
-          record {
-            from = omega (arith, inv.from, u.from);
-            within = u.within;
-            few = omega arith;
-            kept = more;
-          }
-        where
-          put : take (n + 1) (set ks n k) ≡ take n ks ++ (k ∷ [])
-          put = put-more ks n k (omega arith)
+    -- it is put to them
+    pub filled_next : t ≡ false → length ks ≡ 512 → n < 512 → {j : ℕ} → Skipped l i j → Filled l at (set ks n k) j (n + 1)
+    filled_next h size m {j} u =
+        record {
+          from = omega (arith, inv.from, u.from);
+          within = u.within;
+          few = omega arith;
+          kept = more;
+        }
+      where
+        put : take (n + 1) (set ks n k) ≡ take n ks ++ (k ∷ [])
+        put = put-more ks n k (omega arith)
 
-          more : (f : Forest) → Inside l at f → Kept l (set ks n k) (n + 1) j f
-          more f s =
-              let w = keys-split f s in
-              record {
-                rest = w.1.rest;
-                inside = w.1.inside j u;
-                whole = w.2 ∙ sym (ap (λ (q : List ℕ). q ++ keys_of w.1.rest) put ∙ append_snoc (take n ks) k (keys_of w.1.rest));
-                differs = rw put (distinct_more (take n ks) k e w.0.differs h);
-              }
+        more : (f : Forest) → Inside l at f → Kept l (set ks n k) (n + 1) j f
+        more f s =
+            let w = keys-split f s in
+            record {
+              rest = w.1.rest;
+              inside = w.1.inside j u;
+              whole = w.2 ∙ sym (ap (λ (q : List ℕ). q ++ keys_of w.1.rest) put ∙ append_snoc (take n ks) k (keys_of w.1.rest));
+              differs = rw put (distinct_more (take n ks) k e w.0.differs h);
+            }
 
 -- ---- the trees behind a block
 
@@ -157,19 +143,19 @@ pub record Cleared (l : List ℕ) (at : ℕ) (ks : List ℕ) (i : ℕ) : Type 0 
 pub cleared-start : (l : List ℕ) (at : ℕ) (ks : List ℕ) → at ≤ length l → Cleared l at ks at
 cleared-start l at ks h = record { within = h; others = λ f s. record { rest = f; inside = s; same = refl } }
 
-module _ {l : List ℕ} {at : ℕ} {ks : List ℕ} {i : ℕ} (inv : Cleared l at ks i) {x : KeyRead} (read : KeyAt l i x) where
+module _ {l : List ℕ} {at : ℕ} {ks : List ℕ} {i : ℕ} (inv : Cleared l at ks i) where
   -- none is left
-  pub cleared-all : x ≡ key.None → OthersDiffer l at ks true
-  cleared-all e f s =
+  pub cleared-all : KeyAt l i None → OthersDiffer l at ks true
+  cleared-all read f s =
       let g = inv.others f s in
-      sym (g.same ∙ ap (λ (h : Forest). fresh ks (keys_of h)) (none-there l i (subst (KeyAt l i) e read) g.rest g.inside))
+      sym (g.same ∙ ap (λ (h : Forest). fresh ks (keys_of h)) (none-there l i read g.rest g.inside))
 
-  module _ {k : ℕ} (is : x ≡ key.Is k) {t : Bool} (e : t ≡ any (eqb k) ks) where
+  module _ {k : ℕ} (read : KeyAt l i (Some k)) {t : Bool} (e : t ≡ any (eqb k) ks) where
     -- the next one's key is kept
     pub cleared-clash : t ≡ true → OthersDiffer l at ks false
     cleared-clash h f s =
         let g = inv.others f s in
-        let o = next-led l i read is g.rest g.inside in
+        let o = one-there l i k read g.rest g.inside in
         sym (g.same ∙ ap (fresh ks) o.keys ∙ fresh-not ks k e h (keys_of o.rest))
 
     -- it is not
@@ -180,7 +166,7 @@ module _ {l : List ℕ} {at : ℕ} {ks : List ℕ} {i : ℕ} (inv : Cleared l at
           others =
               λ f s.
               let g = inv.others f s in
-              let o = next-led l i read is g.rest g.inside in
+              let o = one-there l i k read g.rest g.inside in
               record { rest = o.rest; inside = o.inside j u; same = g.same ∙ ap (fresh ks) o.keys ∙ fresh-yes ks k e h (keys_of o.rest) };
         }
 
@@ -202,16 +188,12 @@ pub compared-start : (l : List ℕ) (at : ℕ) → at ≤ length l → Compared 
 compared-start l at h =
     record { within = h; behind = λ f s. record { rest = f; inside = s; same = sym (form-differ s.depth f s.form) } }
 
-module _ {l : List ℕ} {at i : ℕ} (inv : Compared l at i) (ks : List ℕ) {x : Block} (read : BlockAt l i ks x) where
+module _ {l : List ℕ} {at i : ℕ} (inv : Compared l at i) (ks : List ℕ) where
   -- two of a block are equal
-  pub compared-clash : x ≡ block.None → DifferAt l at false
-  compared-clash e f s = let g = inv.behind f s in sym (g.same ∙ subst (BlockAt l i ks) e read g.rest g.inside)
+  pub compared-clash : BlockAt l i ks None → DifferAt l at false
+  compared-clash read f s = let g = inv.behind f s in sym (g.same ∙ read g.rest g.inside)
 
-  module _ {n next : ℕ} (is : x ≡ block.Is n next) where
-    -- the block, and where it ends
-    pub block-known : BlockAt l i ks (block.Is n next)
-    block-known = subst (BlockAt l i ks) is read
-
+  module _ {n next : ℕ} (block-known : BlockAt l i ks (Some (n, next))) where
     -- the trees behind the block are fresh to it and differ
     block-splits : (f : Forest) → Inside l at f → (r : Forest) × Inside l next r × (differ (siblings f) ≡ (fresh (take n ks) (keys_of r) && distinct (keys_of r)))
     block-splits f s =
@@ -225,12 +207,11 @@ module _ {l : List ℕ} {at i : ℕ} (inv : Compared l at i) (ks : List ℕ) {x 
         let b = block-splits f s in
         sym (b.2 ∙ ap (λ (r : Forest). fresh (take n ks) (keys_of r) && distinct (keys_of r)) (block-known.4 h b.0 b.1))
 
-    module _ (full : 512 ≤ n) {t : Bool} (e : OthersDiffer l next (take 512 ks) t) where
+    module _ (full : 512 ≤ n) (size : length ks ≡ 512) {t : Bool} (e : OthersDiffer l next ks t) where
       -- whether the trees behind the block have none of its keys
       others-fresh : (r : Forest) → Inside l next r → fresh (take n ks) (keys_of r) ≡ t
       others-fresh r s =
-          let z : n ≡ 512 = omega (arith, block-known.2) in
-          ap (λ (m : ℕ). fresh (take m ks) (keys_of r)) z ∙ sym (e r s)
+          ap (λ (k : List ℕ). fresh k (keys_of r)) (take_all n ks (omega arith)) ∙ sym (e r s)
 
       -- one has a key of the block
       pub compared-other : not t ≡ true → DifferAt l at false

@@ -25,12 +25,12 @@ use Rattle.siblings.specs.Skips.{deeper, Depth, ends, skipped, Skipped}
 -- ---- one byte
 
 -- > ends the element where none is open
-pub ends-here : (x d : ℕ) → x ≡ 62 → eqb d 0 ≡ ends d x
+ends-here : (x d : ℕ) → x ≡ 62 → eqb d 0 ≡ ends d x
 unfolding ends
 ends-here x d e = rw (eq-eqb x 62 e)
 
 -- nothing else does
-pub ends-not : (x d : ℕ) → (x ≡ 62 → ⊥) → false ≡ ends d x
+ends-not : (x d : ℕ) → (x ≡ 62 → ⊥) → false ≡ ends d x
 unfolding ends
 ends-not x d h = rw (ne_eqb x 62 h)
 
@@ -73,10 +73,6 @@ module _ (l : List ℕ) (i d : ℕ) (h : d ≤ i) where
     -- < of an end tag
     pub depth-less : not t ≡ false → Depth l i d (d - 1)
     depth-less n = record { same = deeper-closes d (get_or l i 0) (drop (i + 1) l) k (sym (not-false t n) ∙ e); small = omega arith }
-
-    -- where none is open
-    pub depth-least : not t ≡ false → d ≡ 0 → Depth l i d 0
-    depth-least n z = let s : d - 1 ≡ 0 = omega arith in record { same = sym s ∙ (depth-less n).same; small = omega arith }
 
 -- ---- tags and elements
 
@@ -169,11 +165,14 @@ passed_start l at h = record { start = h; from = omega arith; within = omega ari
 
 module _ {l : List ℕ} {at i d : ℕ} (inv : Passed l at i d) where
   -- all are
-  pub passed-end : length l ≤ i → Skipped l at i
+  pub passed-end : length l ≤ i → Skipped l at (length l)
   unfolding skipped
   passed-end h =
-      let e : drop i l ≡ [] = drop_of_length-le l {i = i} h in
-      record { from = omega (arith, inv.start); within = inv.within; same = e ∙ sym (inv.same ∙ ap (skipped d) e) }
+      record {
+        from = inv.start;
+        within = omega arith;
+        same = drop_of_length-le l {i = length l} (omega arith) ∙ sym (inv.same ∙ ap (skipped d) (drop_of_length-le l {i = i} h));
+      }
 
   module _ (h : i < length l) {t : Bool} (e : t ≡ ends d (get_or l i 0)) where
     -- the element ends

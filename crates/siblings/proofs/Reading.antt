@@ -1,14 +1,12 @@
 -- The key of the element at a place of a text, and a key looked for among others.
-use mathlib.Core.Path.{◌≡◌, refl, sym, ap, subst, ◌∙◌}
-use mathlib.Core.Bool.{Bool, true, false, ◌||◌, or-false, or-true}
+use mathlib.Core.Path.{◌≡◌, sym, ap, ◌∙◌}
+use mathlib.Core.Bool.{Bool, ◌||◌, or-false, or_assoc}
 use mathlib.Core.List.{List, [], ◌∷◌, ◌++◌}
 use Prim.Native.Nat.{ℕ, ◌+◌, ◌-◌, ◌*◌, ◌≤◌, ◌<◌}
-use native.Mathlib.Numerals.{add-one}
 use native.Mathlib.Omega.{arith}
-use lib.ListN.{length, take, drop, get_or, length-drop}
-use lib.Seq.{take-suc, drop-drop}
+use lib.ListN.{length, drop, length-drop}
+use lib.Seq.{drop-drop}
 use lib.Dec.{eqb}
-use borrow.Author.Tests.{eq-eqb, ne_eqb}
 use Rattle.model.specs.Lists.{any}
 use Rattle.model.specs.Path.{Step}
 use Rattle.model.specs.Text.{ascii, decimal, is_digit}
@@ -18,56 +16,16 @@ use Rattle.model.proofs.Tagging.{start-text}
 use Rattle.model.proofs.Sending.{xml-element, end-text}
 use Rattle.scan.specs.Text.{begins}
 use Rattle.scan.specs.Numbers.{Numbered, NumberAt}
-use Rattle.scan.specs.declared.numbers.Number.{Number}
-use Rattle.scan.specs.declared.numbers.Number.TheVariants as number
+use Rattle.std.specs.Prelude.{Some, None, fold}
 use Rattle.scan.proofs.Numerals.{numbered-unique, decimal-begins}
 use Rattle.siblings.specs.Keys.{Opens, KeyAt}
-use Rattle.siblings.specs.declared.keys.KeyRead.TheVariants as key
-use Rattle.siblings.proofs.Distinct.{any_append}
 
 -- ---- a key among others
 
--- whether it is among the first i of n is known
-pub record Sought (ks : List ℕ) (n k : ℕ) (found : Bool) (i : ℕ) : Type 0 where
-  pub room : n ≤ length ks
-  pub within : i ≤ n
-  pub same : found ≡ any (eqb k) (take i ks)
-
--- it is not among none
-pub sought-start : (ks : List ℕ) (n k : ℕ) → n ≤ length ks → Sought ks n k false 0
-sought-start ks n k h = record { room = h; within = omega arith; same = refl }
-
-module _ {ks : List ℕ} {n k : ℕ} {found : Bool} {i : ℕ} (inv : Sought ks n k found i) where
-  -- all are looked at
-  pub sought-end : n ≤ i → found ≡ any (eqb k) (take n ks)
-  sought-end h = let e : i ≡ n = omega (arith, inv.within) in inv.same ∙ ap (λ (j : ℕ). any (eqb k) (take j ks)) e
-
-  module _ (h : i < n) where
-    -- one more
-    sought-more : any (eqb k) (take (i + 1) ks) ≡ (found || (eqb k (get_or ks i 0) || false))
-    sought-more =
-        ap (λ (j : ℕ). any (eqb k) (take j ks)) (add-one i)
-        ∙ ap (any (eqb k)) (take-suc ks i 0 (omega (arith, inv.room)))
-        ∙ any_append (eqb k) (take i ks) (get_or ks i 0 ∷ [])
-        ∙ ap (λ (b : Bool). b || (eqb k (get_or ks i 0) || false)) (sym inv.same)
-
-    -- it is the same
-    pub sought-found : k ≡ get_or ks i 0 → Sought ks n k true (i + 1)
-    sought-found e =
-        record {
-          room = inv.room;
-          within = omega arith;
-          same = sym (sought-more ∙ ap (λ (b : Bool). found || (b || false)) (eq-eqb k (get_or ks i 0) e) ∙ or-true found);
-        }
-
-    -- it is another
-    pub sought-other : (k ≡ get_or ks i 0 → ⊥) → Sought ks n k found (i + 1)
-    sought-other e =
-        record {
-          room = inv.room;
-          within = omega arith;
-          same = sym (sought-more ∙ ap (λ (b : Bool). found || (b || false)) (ne_eqb k (get_or ks i 0) e) ∙ or-false found);
-        }
+-- what a pass over them finds
+pub kept-fold : (k : ℕ) (t : Bool) (ks : List ℕ) → fold (λ (b : Bool) (x : ℕ). b || eqb k x) t ks ≡ (t || any (eqb k) ks)
+kept-fold k t [] = sym (or-false t)
+kept-fold k t (x ∷ ks) = kept-fold k (t || eqb k x) ks ∙ or_assoc t (eqb k x) (any (eqb k) ks)
 
 -- ---- an element's key
 
@@ -95,66 +53,52 @@ module _ (l : List ℕ) (at : ℕ) where
       )
 
   -- there is no room for <e
-  pub key-short : length l - at < 2 → KeyAt l at key.None
+  pub key-short : length l - at < 2 → KeyAt l at None
   key-short h a o = let t = name-there a o in omega (arith, t.1)
 
-  module _ {x : Number} (name-read : NumberAt 65535 l (at + 2) x) where
-    -- no name follows
-    pub key-nameless : x ≡ number.None → KeyAt l at key.None
-    key-nameless e a o =
+  -- no name follows
+  pub key-nameless : NumberAt 65535 l (at + 2) None → KeyAt l at None
+  key-nameless f a o = let t = name-there a o in f a.name (labelled a t.0) t.2
+
+  module _ {name gap : ℕ} (name-known : NumberAt 65535 l (at + 2) (Some (name, gap))) where
+    -- the name is the element's, and its label stands behind eight bytes
+    label-there : (a : Step) → Opens (drop at l) a → (r : List ℕ) × (name ≡ a.name) × (8 ≤ length l - gap) × Numbered 31 (drop (gap + 8) l) a.label (34 ∷ r)
+    unfolding is_digit
+    label-there a o =
         let t = name-there a o in
-        subst (NumberAt 65535 l (at + 2)) e name-read a.name (labelled a t.0) t.2
+        let u = numbered-unique name-known.2 t.2 in (
+          t.0,
+          u.0,
+          long-there l gap 8 (labelled a t.0) (omega arith) u.1,
+          record { small = (step-ranges a o.valid).2; ends = tt; same = sym (drop-drop 8 gap l) ∙ ap (drop 8) u.1 },
+        )
 
-    module _ {name gap : ℕ} (name-is : x ≡ number.Is name gap) where
-      -- the name ends within the text, and is at most 65535
-      pub name-known : NumberAt 65535 l (at + 2) (number.Is name gap)
-      name-known = subst (NumberAt 65535 l (at + 2)) name-is name-read
+    -- there is no room for a label
+    pub key-cut : length l - gap < 8 → KeyAt l at None
+    key-cut h a o = let t = label-there a o in omega (arith, t.2)
 
-      -- the name is the element's, and its label stands behind eight bytes
-      label-there : (a : Step) → Opens (drop at l) a → (r : List ℕ) × (name ≡ a.name) × (8 ≤ length l - gap) × Numbered 31 (drop (gap + 8) l) a.label (34 ∷ r)
-      unfolding is_digit
-      label-there a o =
-          let t = name-there a o in
-          let u = numbered-unique name-known.2 t.2 in (
-            t.0,
-            u.0,
-            long-there l gap 8 (labelled a t.0) (omega arith) u.1,
-            record { small = (step-ranges a o.valid).2; ends = tt; same = sym (drop-drop 8 gap l) ∙ ap (drop 8) u.1 },
-          )
+    -- an end tag has no number there
+    no_end : (n : ℕ) (r : List ℕ) → drop at l ≡ end_tag n ++ r → ⊥
+    unfolding is_digit
+    no_end n r e =
+        let d : drop (at + 2) l ≡ 101 ∷ (decimal n ++ (ascii ">" ++ r)) = sym (drop-drop 2 at l) ∙ ap (drop 2) (e ∙ end-text n r) in
+        decimal-begins 101 tt name (drop gap l) (ap (begins 101) (sym name-known.2.same ∙ d))
 
-      -- there is no room for a label
-      pub key-cut : length l - gap < 8 → KeyAt l at key.None
-      key-cut h a o = let t = label-there a o in omega (arith, t.2)
+    -- no label follows
+    pub key-unlabelled : NumberAt 31 l (gap + 8) None → KeyAt l at None
+    key-unlabelled f a o = let t = label-there a o in f a.label (34 ∷ t.0) t.3
 
-      -- an end tag has no number there
-      no_end : (n : ℕ) (r : List ℕ) → drop at l ≡ end_tag n ++ r → ⊥
-      unfolding is_digit
-      no_end n r e =
-          let d : drop (at + 2) l ≡ 101 ∷ (decimal n ++ (ascii ">" ++ r)) = sym (drop-drop 2 at l) ∙ ap (drop 2) (e ∙ end-text n r) in
-          decimal-begins 101 tt name (drop gap l) (ap (begins 101) (sym name-known.2.same ∙ d))
+    module _ {label next : ℕ} (label-known : NumberAt 31 l (gap + 8) (Some (label, next))) where
+      -- so both make a key
+      pub key_fits : (name ≤ 65535) × (label ≤ 31)
+      key_fits = (name-known.2.small, label-known.2.small)
 
-      module _ {y : Number} (label-read : NumberAt 31 l (gap + 8) y) where
-        -- no label follows
-        pub key-unlabelled : y ≡ number.None → KeyAt l at key.None
-        key-unlabelled f a o =
-            let t = label-there a o in
-            subst (NumberAt 31 l (gap + 8)) f label-read a.label (34 ∷ t.0) t.3
-
-        module _ {label next : ℕ} (Label-is : y ≡ number.Is label next) where
-          -- the label is at most 31
-          label-known : NumberAt 31 l (gap + 8) (number.Is label next)
-          label-known = subst (NumberAt 31 l (gap + 8)) Label-is label-read
-
-          -- so both make a key
-          pub key_fits : (name ≤ 65535) × (label ≤ 31)
-          key_fits = (name-known.2.small, label-known.2.small)
-
-          -- which is the element's
-          pub key-found : {k : ℕ} → k ≡ 32 * name + label → KeyAt l at (key.Is k)
-          key-found {k} e = (omega (arith, name-known.0, name-known.1), no_end, is)
-            where
-              is : (a : Step) → Opens (drop at l) a → k ≡ 32 * a.name + a.label
-              is a o =
-                  let t = label-there a o in
-                  let u = numbered-unique label-known.2 t.3 in
-                  omega (arith, t.1, u.0)
+      -- which is the element's
+      pub key-found : {k : ℕ} → k ≡ 32 * name + label → KeyAt l at (Some k)
+      key-found {k} e = (omega (arith, name-known.0, name-known.1), no_end, is)
+        where
+          is : (a : Step) → Opens (drop at l) a → k ≡ 32 * a.name + a.label
+          is a o =
+              let t = label-there a o in
+              let u = numbered-unique label-known.2 t.3 in
+              omega (arith, t.1, u.0)

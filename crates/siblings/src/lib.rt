@@ -9,8 +9,6 @@ ghost use Rattle.std.specs.Prelude.{◌≤◌, length, T};
 ghost use Rattle.model.specs.Path.{valid_step};
 ghost use Rattle.siblings.specs.Differing.{DifferAt, Added};
 
-use crate::blocks::Block;
-
 // Whether the elements that stand at a place, up to the end of the one that they are inside, differ in name or label. The keys of 512 are
 // kept at a time, and those of all behind them are compared with them.
 pub fn differ_at(text: &[u8], at: usize) -> bool
@@ -19,10 +17,7 @@ pub fn differ_at(text: &[u8], at: usize) -> bool
 {
     let mut keys = [0u32; 512];
     let mut i = at;
-    loop {
-        let Block::Is(n, next) = blocks::block_at(text, i, &mut keys) else {
-            return false;
-        };
+    while let Some((n, next)) = blocks::block_at(text, i, &mut keys) {
         if n < 512 {
             return true;
         }
@@ -31,8 +26,10 @@ pub fn differ_at(text: &[u8], at: usize) -> bool
         }
         i = next;
     }
+    false
 }
 
+// The number n stands beside the array, since it counts on behind the 32 keys that are kept.
 // Takes one more step to the n of a place's first elements, whose keys are kept: whether it differs from them. Behind 32 the text is asked.
 pub fn add(text: &[u8], at: usize, keys: &mut [u32; 32], n: usize, name: u64, label: u64) -> bool
     requires { (at ≤ length text.now) × T (valid_step (record { name = name; label = label })) }
@@ -45,7 +42,7 @@ pub fn add(text: &[u8], at: usize, keys: &mut [u32; 32], n: usize, name: u64, la
         return differ_at(text, at);
     }
     let key = keys::key_of(name, label);
-    if keys::is_kept(keys, n, key) {
+    if keys::is_kept(&keys[..n], key) {
         return false;
     }
     keys[n] = key;

@@ -13,20 +13,15 @@ fn depth_behind(text: &[u8], at: usize, depth: usize) -> usize
     if !scan::holds(text, at + 1, b'/') {
         return depth + 1;
     }
-    if depth == 0 {
-        return 0;
-    }
-    depth - 1
+    depth.saturating_sub(1)
 }
 
 // Whether a byte ends the element: the > of a tag behind which none is open.
+#[tactic(auto, unfolding(crate::specs::Skips::ends))]
 fn is_end(x: u8, depth: usize) -> bool
     ensures { result ≡ ends depth x }
 {
-    if x != b'>' {
-        return false;
-    }
-    depth == 0
+    x == b'>' && depth == 0
 }
 
 // Where the element that begins at at ends.
@@ -34,14 +29,12 @@ pub fn skip(text: &[u8], at: usize) -> usize
     requires { at < length text.now }
     ensures { Skipped text.now at result }
 {
-    let mut i = at;
     let mut depth: usize = 0;
-    while i < text.len() {
+    for i in at..text.len() {
         if is_end(text[i], depth) {
             return i + 1;
         }
         depth = depth_behind(text, i, depth);
-        i += 1;
     }
-    i
+    text.len()
 }

@@ -2,21 +2,19 @@
 use mathlib.Core.Path.{◌≡◌, sym, ap, ◌∙◌}
 use mathlib.Core.Bool.{Bool, ◌&&◌, true}
 use mathlib.Core.List.{List}
-use Prim.Native.Nat.{ℕ, ◌+◌, ◌-◌, ◌/◌, ◌≤◌, ◌<◌, min}
+use Prim.Native.Nat.{ℕ, ◌+◌, ◌-◌, ◌≤◌, ◌<◌, min}
 use native.Mathlib.Omega.{arith}
 use lib.ListN.{length, drop, length-take, length-drop}
 use lib.Dec.{T}
 use mir.Facts.{leb_yes}
 use Rattle.model.specs.Lists.{range, between}
-use Rattle.model.specs.Path.{Step, ends_in, valid_path, steps_of}
+use Rattle.model.specs.Path.{Step, ends_in, valid_path}
 use Rattle.model.specs.Value.{storable}
 use Rattle.model.specs.Slot.{value_at, slot_size, depth, step_at, value_length, read_path, read_content}
 use Rattle.model.proofs.Bools.{and_l, and_r}
 use Rattle.model.proofs.Lists.{length-range}
 use Rattle.model.proofs.Slots.{allowed-length}
-use Rattle.path.specs.Steps.{lent_step}
 use Rattle.path.specs.Common.{ComparedBy}
-use Rattle.path.proofs.Steps.{lent-range}
 
 -- ---- the path
 
@@ -53,12 +51,7 @@ module _ (n : ℕ) (b : List ℕ) {r : Bool} (f : r ≡ (valid_path (read_path b
 
 -- ---- comparisons
 
-pub compared-slots : (k : Step → List ℕ) (a b : List ℕ) {x y i : ℕ} {t : Bool} → (x ≡ depth a) × (x < 256) → (y ≡ depth b) × (y < 256)
-    → ComparedBy k (range (step_at a) 0 x) (range (step_at b) 0 y) i t → ComparedBy k (read_path a) (read_path b) i t
-unfolding read_path
-compared-slots k a b e f c = rw (e.0, f.0) at c
-
-pub compared-path : (k : Step → List ℕ) (a p : List ℕ) {x y i : ℕ} {t : Bool} → (x ≡ depth a) × (x < 256) → y ≡ length p / 3
-    → ComparedBy k (range (step_at a) 0 x) (range (lent_step p) 0 y) i t → ComparedBy k (read_path a) (steps_of p) i t
-unfolding read_path
-compared-path k a p e f c = rw (lent-range p) (rw (e.0, f) at c)
+-- two comparisons of ranges whose lengths were read
+pub compared-counts : (k : Step → List ℕ) (f g : ℕ → Step) {x y m n i : ℕ} {t : Bool} → x ≡ m → y ≡ n
+    → ComparedBy k (range f 0 x) (range g 0 y) i t → ComparedBy k (range f 0 m) (range g 0 n) i t
+compared-counts k f g d e c = rw (d, e) at c

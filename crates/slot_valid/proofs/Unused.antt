@@ -17,7 +17,6 @@ use Rattle.model.proofs.Lists.{length-between, all-parts, between_join, between_
 use Rattle.model.proofs.Walks.{rest, rest_more, rest_end}
 use Rattle.octets.proofs.Joining.{join-zero}
 use Rattle.path.specs.Steps.{may_follow, all_follow}
-use Rattle.slot.specs.Slot.{Readable}
 use Rattle.slot_valid.specs.Valid.{no_step, may_stand, steps_zero, rest_zero}
 
 -- ---- one place
@@ -42,9 +41,9 @@ module _ (d l i : ℕ) (a : Step) where
   used-place h e = e ∙ rw (lt-ltb i d h)
 
   -- name and label of no step are 0
-  pub unused-place : d ≤ i → {m k n : ℕ} → (m ≡ a.name) × (m < 65536) → k ≡ a.label → (n ≡ k) × (n < 256) → eqb (m + n) 0 ≡ may_stand d l i a
+  pub unused-place : d ≤ i → {m k n : ℕ} → (m ≡ a.name) × (m < 65536) → k ≡ a.label → n ≡ k → eqb (m + n) 0 ≡ may_stand d l i a
   unfolding same_step
-  unused-place h e f g = ap₂ (λ (x y : ℕ). eqb (x + y) 0) e.0 (g.0 ∙ f) ∙ sum-zero a.name a.label ∙ rw (le-ltb i d h)
+  unused-place h e f g = ap₂ (λ (x y : ℕ). eqb (x + y) 0) e.0 (g ∙ f) ∙ sum-zero a.name a.label ∙ rw (le-ltb i d h)
 
 -- ---- the six places
 
@@ -131,17 +130,16 @@ module _ (b : List ℕ) (size : length b ≡ slot_size) where
       ∙ crossed (eqb (step_at b i).name 0) (names (suc i)) (eqb (step_at b i).label 0) (labels (suc i))
       ∙ ap (λ (t : Bool). no_step (step_at b i) && t) (zero-places (suc i) k (omega arith))
 
-pub stand-start : (b : List ℕ) {d : ℕ} → Readable b → (d ≡ depth b) × (d < 256)
+pub stand-start : (b : List ℕ) {d : ℕ} → length b ≡ slot_size → depth b ≤ 6 → (d ≡ depth b) × (d < 256)
     → Standing (step_at b) (all_follow 0 (read_path b) && steps_zero b) d 0 0
 unfolding read_path steps_zero
-stand-start b {d} o e =
-    let s : depth b ≤ 6 = o.steps in
+stand-start b {d} size s e =
     let m : max d 0 ≡ d = omega arith in
     let n : d - 0 ≡ d = omega arith in
     record {
       within = omega arith;
       few = omega (arith, e.0);
-      same = rw (m, n, e.0) (ap (λ (t : Bool). all_follow 0 (range (step_at b) 0 (depth b)) && t) (zero-places b o.size (depth b) (6 - depth b) (omega arith)));
+      same = rw (m, n, e.0) (ap (λ (t : Bool). all_follow 0 (range (step_at b) 0 (depth b)) && t) (zero-places b size (depth b) (6 - depth b) (omega arith)));
     }
 
 -- ---- behind the value

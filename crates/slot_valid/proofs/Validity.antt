@@ -83,9 +83,9 @@ module _ (b : List ℕ) (size : length b ≡ slot_size) {n : ℕ} (e : (n ≡ va
       (λ (t : T (not (allowed (get_or b 19 0) (between value_at (value_at + value_length b) b)))). sym (is_false _ t))
 
   -- else the kind decides
-  pub value-short : {k : ℕ} {r : Bool} → (k ≡ get_or b 19 0) × (k < 256) → r ≡ allowed k (between value_at (value_at + n) b) → r ≡ storable (read_content b)
+  pub value-short : {k : ℕ} {r : Bool} → k ≡ (read_content b).kind → r ≡ allowed k (between value_at (value_at + n) b) → r ≡ storable (read_content b)
   unfolding storable read_content
-  value-short f g = g ∙ ap₂ (λ (x y : ℕ). allowed x (between value_at (value_at + y) b)) f.0 e.0
+  value-short f g = g ∙ ap₂ (λ (x y : ℕ). allowed x (between value_at (value_at + y) b)) f e.0
 
 -- ---- the whole slot
 

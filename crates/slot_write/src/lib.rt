@@ -1,31 +1,21 @@
 // Slots written in place, field by field; what a field leaves unused is 0.
 #![tactic(auto)]
 
-ghost use Rattle.std.specs.Prelude.{◌≡◌, [], ◌++◌, map, ◌-◌, ◌≤◌, length, take, replicate};
+ghost use Rattle.std.specs.Prelude.{◌≡◌, [], ◌++◌, map, ◌-◌, ◌≤◌, length, take};
 ghost use Rattle.model.specs.Lists.{gather};
 ghost use Rattle.model.specs.Path.{steps_of};
 ghost use Rattle.model.specs.Slot.{names_at, labels_at, kind_at, value_at, spare_at, slot_size, field, name_bytes, content_bytes, slot_bytes};
 
-// Sets every byte to 0: all are shifted out.
-fn clear(s: &mut [u8])
-    ensures { s.new ≡ replicate (length s.old) 0 }
-{
-    let n = s.len();
-    octets::shift_down(s, n);
-}
-
 // Writes the names of a lent path.
+// Names and labels have a loop each: one for both would take the width of a member and its place in a step as numbers, which is no plainer.
 fn write_names(names: &mut [u8], path: &[u8])
     requires { (length names.old ≡ labels_at - names_at) × (length path.now ≤ 20) }
     ensures { names.new ≡ field names_at labels_at (gather name_bytes (steps_of path.now)) }
 {
-    clear(names);
-    let n = path.len() / 3;
-    let mut i: usize = 0;
-    while i < n {
+    names.fill(0);
+    for i in 0..path.len() / 3 {
         names[2 * i] = path[3 * i];
         names[2 * i + 1] = path[3 * i + 1];
-        i += 1;
     }
 }
 
@@ -34,12 +24,9 @@ fn write_labels(labels: &mut [u8], path: &[u8])
     requires { (length labels.old ≡ kind_at - labels_at) × (length path.now ≤ 20) }
     ensures { labels.new ≡ field labels_at kind_at (map (λ a. a.label) (steps_of path.now)) }
 {
-    clear(labels);
-    let n = path.len() / 3;
-    let mut i: usize = 0;
-    while i < n {
+    labels.fill(0);
+    for i in 0..path.len() / 3 {
         labels[i] = path[3 * i + 2];
-        i += 1;
     }
 }
 
@@ -48,11 +35,12 @@ fn write_value(s: &mut [u8], value: &[u8])
     requires { (length s.old ≡ slot_size - value_at) × (length value.now ≤ 16) }
     ensures { s.new ≡ field value_at spare_at value.now ++ field spare_at slot_size [] }
 {
-    clear(s);
+    s.fill(0);
     s[..value.len()].copy_from_slice(value);
 }
 
 // Writes another kind and value to a slot, whose path stays.
+// The kind stays a number: docs/ASSURANCE.md names this function, and it takes any byte.
 pub fn replace_content(slot: &mut [u8], kind: u8, value: &[u8])
     requires { (length slot.old ≡ slot_size) × (length value.now ≤ 16) }
     ensures { slot.new ≡ take kind_at slot.old ++ content_bytes (record { kind = kind; value = value.now }) }
@@ -63,6 +51,7 @@ pub fn replace_content(slot: &mut [u8], kind: u8, value: &[u8])
 }
 
 // Writes an element to a slot.
+// The kind stays a number: docs/ASSURANCE.md names this function, and it takes any byte.
 pub fn write(slot: &mut [u8], path: &[u8], kind: u8, value: &[u8])
     requires { (length slot.old ≡ slot_size) × (length path.now ≤ 20) × (length value.now ≤ 16) }
     ensures { slot.new ≡ slot_bytes (record { path = steps_of path.entry.now; content = record { kind = kind; value = value.now } }) }

@@ -12,7 +12,7 @@ use Rattle.model.specs.Lists.{range}
 use Rattle.model.specs.Sets.{sorted, ahead}
 use Rattle.model.specs.Path.{Step, path_rank}
 use Rattle.model.specs.Element.{Element, rank}
-use Rattle.model.specs.Slot.{slot_size, read_path, read_slot}
+use Rattle.model.specs.Slot.{depth, read_path, read_slot}
 use Rattle.model.specs.Partition.{partition_size, count, slot_at, read_partition}
 use Rattle.model.proofs.Bools.{and_l, and_r, decide, is_true, is_false}
 use Rattle.model.proofs.Members.{all_in}
@@ -20,7 +20,6 @@ use Rattle.model.proofs.Order.{precedes-trans}
 use Rattle.model.proofs.Partitions.{length-layout}
 use Rattle.model.proofs.Walks.{rest, in-range}
 use Rattle.path.specs.Common.{is_before, Compared}
-use Rattle.slot.specs.Slot.{Readable}
 use Rattle.partition.specs.Place.{place_of}
 use Rattle.partition.proofs.Placing.{place-within}
 use Rattle.partition.proofs.Finding.{element_at, valid-slot, elements-from, length-read}
@@ -33,13 +32,13 @@ module _ {b : List ℕ} (f : Laid b) where
   laid-size = ap length f.bytes ∙ length-layout (read_partition b)
 
   -- each used slot can be read
-  pub laid-readable : {x : List ℕ} {i : ℕ} → i < count b → (x ≡ slot_at b i) × (length x ≡ slot_size) → Readable x
-  laid-readable {i = i} h d = record { size = d.1; steps = rw d.0 (valid-slot f.label b f.valid i h) }
+  pub laid-few : {x : List ℕ} {i : ℕ} → i < count b → x ≡ slot_at b i → depth x ≤ 6
+  laid-few {i = i} h d = rw d (valid-slot f.label b f.valid i h)
 
 -- two slots compared
-pub compared_at : (b : List ℕ) (i j : ℕ) {x y : List ℕ} → (x ≡ slot_at b i) × (length x ≡ slot_size) → (y ≡ slot_at b j) × (length y ≡ slot_size)
+pub compared_at : (b : List ℕ) (i j : ℕ) {x y : List ℕ} → x ≡ slot_at b i → y ≡ slot_at b j
     → {s : ℕ} {t : Bool} → Compared (read_path x) (read_path y) s t → t ≡ is_before (read_path (slot_at b i)) (read_path (slot_at b j))
-compared_at b i j d e m = m.before-is ∙ ap₂ (λ (u v : List ℕ). is_before (read_path u) (read_path v)) d.0 e.0
+compared_at b i j d e m = m.before-is ∙ ap₂ (λ (u v : List ℕ). is_before (read_path u) (read_path v)) d e
 
 -- ---- the place of a path among elements
 
@@ -129,8 +128,8 @@ module _ {b : List ℕ} {i from j : ℕ} (f : SortedBehind b i) (few : from ≤ 
     used = omega (arith, inv.within)
 
     -- it comes before slot i: the search ends
-    pub back-here : r ≡ true → j ≡ min from (place_behind b i)
-    back-here t = lesser (omega (arith, slot-past f (omega arith) used e t))
+    pub back-here : r ≡ true → j - 1 + 1 ≡ min from (place_behind b i)
+    back-here t = omega (arith, lesser (omega (arith, slot-past f (omega arith) used e t)))
 
     -- it does not
     pub back-next : r ≡ false → Backing b i from (j - 1)
@@ -142,8 +141,8 @@ module _ {b : List ℕ} {i from j : ℕ} (f : SortedBehind b i) (few : from ≤ 
         }
 
   -- none is left
-  pub back_end : j ≤ i + 1 → j ≡ min from (place_behind b i)
-  back_end h = lesser (omega arith)
+  pub back_end : j ≤ i + 1 → i + 1 ≡ min from (place_behind b i)
+  back_end h = omega (arith, inv.behind, lesser (omega arith))
 
 -- ---- the search forth
 
@@ -165,5 +164,5 @@ module _ {b : List ℕ} {i j : ℕ} (f : SortedBehind b i) (inv : Forward b i j)
     forth-next t = record { behind = omega (arith, inv.behind); before = slot-past f inv.behind left e t }
 
   -- no slot is left
-  pub forth-end : count b ≤ j → j ≡ place_behind b i
+  pub forth-end : count b ≤ j → count b ≡ place_behind b i
   forth-end l = omega (arith, inv.before, place-most f)

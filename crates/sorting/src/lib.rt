@@ -9,13 +9,18 @@ ghost use Rattle.model.specs.Partition.{count, slot_at, layout, read_partition};
 ghost use Rattle.path.specs.Common.{is_before};
 ghost use Rattle.sorting.specs.Sorting.{Laid, SortedBehind, Former, place_behind, moved};
 
+use partition::Partition;
+use slot::SlotPath;
+
 // Whether slot i comes before slot j in path order.
 fn comes_before(part: &[u8], i: usize, j: usize) -> bool
     requires { Laid part.now × (i < count part.now) × (j < count part.now) }
     ensures { result ≡ is_before (read_path (slot_at part.now i)) (read_path (slot_at part.now j)) }
 {
-    let m = slot::compare(partition::slot_at(part, i), partition::slot_at(part, j));
-    m.before
+    let part = Partition { bytes: part };
+    let a = SlotPath { slot: part.slot(i) };
+    let b = SlotPath { slot: part.slot(j) };
+    slot::compare(a, b).before
 }
 
 // From a slot on back to where slot i comes among those behind it, if that is not behind the slot.
@@ -23,14 +28,12 @@ fn back_from(part: &[u8], i: usize, from: usize) -> usize
     requires { SortedBehind part.now i × (i < from) × (from ≤ count part.now) }
     ensures { result ≡ min from (place_behind part.now i) }
 {
-    let mut j = from;
-    while i + 1 < j {
-        if comes_before(part, j - 1, i) {
-            return j;
+    for j in (i + 1..from).rev() {
+        if comes_before(part, j, i) {
+            return j + 1;
         }
-        j -= 1;
     }
-    j
+    i + 1
 }
 
 // From a slot on, before which all behind slot i come before it, to the first that does not.
@@ -38,15 +41,13 @@ fn forth_from(part: &[u8], i: usize, from: usize) -> usize
     requires { SortedBehind part.now i × (i < from) × (from ≤ place_behind part.now i) }
     ensures { result ≡ place_behind part.now i }
 {
-    let c = partition::count(part);
-    let mut j = from;
-    while j < c {
+    let c = Partition { bytes: part }.count();
+    for j in from..c {
         if !comes_before(part, j, i) {
             return j;
         }
-        j += 1;
     }
-    j
+    c
 }
 
 // Where slot i comes among those behind it, which are sorted. It is looked for from a slot on, back or forth.
@@ -61,19 +62,6 @@ fn place_of(part: &[u8], i: usize, near: usize) -> usize
     forth_from(part, i, j)
 }
 
-// Moves the first slot behind the others.
-fn turn(s: &mut [u8])
-    requires { slot_size ≤ length s.old }
-    ensures { s.new ≡ drop slot_size s.old ++ take slot_size s.old }
-{
-    let mut scratch = [0u8; 40];
-    scratch.copy_from_slice(&s[0..40]);
-    octets::move_down(s, 40);
-    let end = s.len();
-    let start = end - 40;
-    s[start..end].copy_from_slice(&scratch);
-}
-
 // Moves slot i behind those up to slot to.
 fn move_behind(part: &mut [u8], i: usize, to: usize)
     requires { Laid part.old × (i < to) × (to ≤ count part.old) }
@@ -81,7 +69,7 @@ fn move_behind(part: &mut [u8], i: usize, to: usize)
 {
     let start = 4 + 40 * i;
     let end = 4 + 40 * to;
-    turn(&mut part[start..end]);
+    part[start..end].rotate_left(40);
 }
 
 // Puts slot i to its place among those behind it, which are sorted, looking from a slot on: the slot it comes to, which helps to find the next;
@@ -104,14 +92,12 @@ pub fn sort(part: &mut [u8])
     requires { Former part.old }
     ensures { part.new ≡ layout (sort rank (read_partition part.old)) }
 {
-    let c = partition::count(part);
+    let c = Partition { bytes: part }.count();
     if c == 0 {
         return;
     }
-    let mut i = c - 1;
     let mut near = c - 1;
-    while 0 < i {
-        i -= 1;
+    for i in (0..c - 1).rev() {
         near = settle(part, i, near);
     }
 }

@@ -39,7 +39,7 @@ module _ {b : List ℕ} {s : ℕ} (o : Own b s) where
   pub own-part : {x : List ℕ} → x ≡ partition s b → Formed x
   own-part e = record { label = s; is = rw e own-formed }
 
-  module _ {k : ℕ} (i : (k ≡ s) × (k < 256)) where
+  module _ {k : ℕ} (i : k ≡ s) where
     own-lent : lent_part k b ≡ partition s b
     own-lent = (part-lent s s b o.size own-dominated i).0
 
@@ -68,11 +68,11 @@ module _ {b : List ℕ} {s : ℕ} (o : Own b s) where
     pub own-changed : (f : List Element → List Element) {x : List ℕ} → x ≡ layout (f (read_partition (lent_part k b)))
         → put_mid (1284 * k) (1284 * k + 1284 - 1284 * k) b x ≡ replace s (layout (f (own_set s (open_model b)))) b
     own-changed f {x} g =
-        part-replaced s b k o.size o.label i.0 x
+        part-replaced s b k o.size o.label i x
         ∙ ap (λ (l : List ℕ). replace s l b) (g ∙ ap (λ (es : List Element). layout (f es)) lent-set)
 
 -- the part that is lent lacks the path too
-pub own-vacant : {b : List ℕ} {s : ℕ} {p : List Step} {at n : ℕ} {c : Content} (v : Vacant b s p at n c) {k : ℕ} (i : (k ≡ s) × (k < 256))
+pub own-vacant : {b : List ℕ} {s : ℕ} {p : List Step} {at n : ℕ} {c : Content} (v : Vacant b s p at n c) {k : ℕ} (i : k ≡ s)
     → part.Vacant (lent_part k b) p at n c
 own-vacant {b} {s} {p} v i =
     let q = lent-set v.own i in

@@ -3,7 +3,9 @@ use mathlib.Core.Path.{◌≡◌, refl, sym, ap, ◌∙◌}
 use mathlib.Core.Bool.{Bool, true, false, not, ◌&&◌, ◌||◌}
 use mathlib.Core.List.{List, ◌++◌}
 use Prim.Native.Nat.{ℕ, zero, suc, ◌+◌, ◌-◌, ◌*◌, ◌≤◌, ◌<◌}
+use native.Mathlib.Numerals.{add-one}
 use native.Mathlib.Omega.{arith}
+use Rattle.std.specs.List.{list_any, range_with_len}
 use borrow.Rule.Slice.PartMut.{put_mid, Post-is}
 use lib.ListN.{length, take, drop}
 use lib.Dec.{T}
@@ -15,8 +17,8 @@ use Rattle.model.specs.Model.{held, raw, is_held, elements, open_cell, open_mode
 use Rattle.model.specs.Rows.{some_raw}
 use Rattle.model.proofs.Bools.{decide, cond_yes, cond_no, is_true, is_false}
 use Rattle.model.proofs.Dominance.{label-lt, dominates-upper, dominates-lower, dominates-le}
-use Rattle.model.proofs.Stores.{yes-has, partition-part, length-partition, replace-placed}
 use Rattle.model.proofs.Walks.{Left, left-start}
+use Rattle.model.proofs.Stores.{yes-has, partition-part, length-partition, replace-placed}
 
 -- the part that is lent
 pub dominated-lt : (s n : ℕ) → T (dominates s n) → n < 32
@@ -42,28 +44,24 @@ pub formed-set : (n : ℕ) (b : List ℕ) → T (well_formed n (partition n b)) 
 unfolding own_set open_model open_cell elements
 formed-set n b t = ap elements (cond_yes (well_formed n (partition n b)) (held (read_partition (partition n b))) (raw (partition n b)) t)
 
--- a partition that the subject does not dominate does not matter
-module _ (s n : ℕ) (b : List ℕ) {r : Bool} (e : r ≡ dominates s n) where
-  pub not-dominated : r ≡ false → false ≡ (dominates s n && not (is_held ((open_model b).cell n)))
-  not-dominated t = let q : dominates s n ≡ false = sym e ∙ t in rw q
+-- of a label that the subject dominates, what the test of its partition tells
+module _ (s n : ℕ) (b : List ℕ) {r : Bool} (e : r ≡ dominates s n) (t : r ≡ true) where
+  pub is-dominated : T (dominates s n)
+  is-dominated = let q : dominates s n ≡ true = sym e ∙ t in rw q tt
 
-  pub is-dominated : r ≡ true → T (dominates s n)
-  is-dominated t = let q : dominates s n ≡ true = sym e ∙ t in rw q tt
-
-  -- of one that he does, its well-formedness
-  pub by-formed : r ≡ true → {x : List ℕ} {w : Bool} → (x ≡ partition n b) × (length x ≡ partition_size) → w ≡ well_formed n x
+  pub by-formed : {x : List ℕ} {w : Bool} → (x ≡ partition n b) × (length x ≡ partition_size) → w ≡ well_formed n x
       → not w ≡ (dominates s n && not (is_held ((open_model b).cell n)))
   unfolding open_model
-  by-formed t f g =
+  by-formed f g =
       let q : dominates s n ≡ true = sym e ∙ t in
       sym (rw q (ap not (held-formed n (partition n b) ∙ ap (well_formed n) (sym f.0) ∙ sym g)))
 
 -- the part that starts at the label's index k
-pub part-lent : (s n : ℕ) (b : List ℕ) {k : ℕ} → length b ≡ store_size → T (dominates s n) → (k ≡ n) × (k < 256)
+pub part-lent : (s n : ℕ) (b : List ℕ) {k : ℕ} → length b ≡ store_size → T (dominates s n) → k ≡ n
     → (take (1284 * k + 1284 - 1284 * k) (drop (1284 * k) b) ≡ partition n b) × (length (take (1284 * k + 1284 - 1284 * k) (drop (1284 * k) b)) ≡ partition_size)
 part-lent s n b {k} size t e =
     let p : take (1284 * k + 1284 - 1284 * k) (drop (1284 * k) b) ≡ partition n b =
-    ap (λ (i : ℕ). take (1284 * i + 1284 - 1284 * i) (drop (1284 * i) b)) e.0 ∙ part-is s n b size t in
+    ap (λ (i : ℕ). take (1284 * i + 1284 - 1284 * i) (drop (1284 * i) b)) e ∙ part-is s n b size t in
     (p, ap length p ∙ part-size s n b size t)
 
 -- another put in its place
@@ -101,3 +99,13 @@ raw_at s b n = dominates s n && not (is_held ((open_model b).cell n))
 pub raw-start : (s : ℕ) (b : List ℕ) {e : ℕ} → (e ≤ 32) × (s < 32 → s < e) → Left (λ n. n) (any (raw_at s b)) (some_raw s (open_model b)) e 0
 unfolding some_raw
 raw-start s b {e} f = labels-start (raw_at s b) f.0 (λ n h. rw (not-above s e n f h))
+
+-- a search over the numbers from i on, as the code runs it
+any-numbers : (p : ℕ → Bool) (i k : ℕ) → list_any p (range_with_len i k) ≡ any p (range (λ n. n) i k)
+any-numbers p i zero = refl
+any-numbers p i (suc k) = ap (λ (t : Bool). p i || t) (ap (λ (j : ℕ). list_any p (range_with_len j k)) (add-one i) ∙ any-numbers p (suc i) k)
+
+pub any-start : (p : ℕ → Bool) {w : Bool} {e : ℕ} → Left (λ n. n) (any p) w e 0 → list_any p (range_with_len 0 e) ≡ w
+any-start p {w} {e} l =
+    let z : e - 0 ≡ e = omega arith in
+    any-numbers p 0 e ∙ sym (l.same ∙ ap (λ (k : ℕ). any p (range (λ n. n) 0 k)) z)

@@ -21,7 +21,7 @@ use Rattle.model.proofs.Walks.{Left, in-range}
 use Rattle.path.proofs.Steps.{length-steps, root-steps}
 use Rattle.partition.specs.Place.{Formed}
 use Rattle.store.specs.Opened.{Opened, below_at, Within}
-use Rattle.store.proofs.Parts.{raw_at, held-formed, formed-set, dominated-lt, not-above, labels-start}
+use Rattle.store.proofs.Parts.{raw_at, held-formed, formed-set, dominated-lt, is-dominated, not-above, labels-start}
 
 -- a partition that the subject dominates is well formed
 pub opened-formed : {b : List ℕ} {s : ℕ} → Opened b s → (n : ℕ) → T (dominates s n) → T (well_formed n (partition n b))
@@ -39,25 +39,21 @@ opened-formed {b} {s} o n t =
 pub opened-set : {b : List ℕ} {s : ℕ} → Opened b s → (n : ℕ) → T (dominates s n) → own_set n (open_model b) ≡ read_partition (partition n b)
 opened-set {b} o n t = formed-set n b (opened-formed o n t)
 
--- one label
-module _ {b : List ℕ} {s : ℕ} (o : Opened b s) (p : List Step) (n : ℕ) {r : Bool} (e : r ≡ dominates s n) where
-  pub not-below : r ≡ false → false ≡ below_at s b p n
-  not-below t = let q : dominates s n ≡ false = sym e ∙ t in rw q
+-- one label that the subject dominates
+module _ {b : List ℕ} {s : ℕ} (o : Opened b s) (p : List Step) (n : ℕ) {r : Bool} (e : r ≡ dominates s n) (yes : r ≡ true) where
+  dominated : T (dominates s n)
+  dominated = is-dominated s n b e yes
 
-  module _ (yes : r ≡ true) where
-    pub dominated : T (dominates s n)
-    dominated = let q : dominates s n ≡ true = sym e ∙ yes in rw q tt
+  pub part-formed : {x : List ℕ} → (x ≡ partition n b) × (length x ≡ partition_size) → Formed x
+  part-formed f = record { label = n; is = rw f.0 (opened-formed o n dominated) }
 
-    pub part-formed : {x : List ℕ} → (x ≡ partition n b) × (length x ≡ partition_size) → Formed x
-    part-formed f = record { label = n; is = rw f.0 (opened-formed o n dominated) }
-
-    pub by-below : {x : List ℕ} {w : Bool} → (x ≡ partition n b) × (length x ≡ partition_size) → w ≡ any (λ e. is_prefix p e.path) (read_partition x) → w ≡ below_at s b p n
-    by-below f g =
-        g
-        ∙ ap (λ (l : List ℕ). any (λ e. is_prefix p e.path) (read_partition l)) f.0
-        ∙ sym
-        (ap (λ (l : List Element). any (λ e. is_prefix p e.path) l)
-        (cond_yes (dominates s n) (own_set n (open_model b)) [] dominated ∙ opened-set o n dominated))
+  pub by-below : {x : List ℕ} {w : Bool} → (x ≡ partition n b) × (length x ≡ partition_size) → w ≡ any (λ e. is_prefix p e.path) (read_partition x) → w ≡ below_at s b p n
+  by-below f g =
+      g
+      ∙ ap (λ (l : List ℕ). any (λ e. is_prefix p e.path) (read_partition l)) f.0
+      ∙ sym
+      (ap (λ (l : List Element). any (λ e. is_prefix p e.path) l)
+      (cond_yes (dominates s n) (own_set n (open_model b)) [] dominated ∙ opened-set o n dominated))
 
 -- all labels
 

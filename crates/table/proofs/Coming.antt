@@ -28,15 +28,15 @@ use Rattle.model.proofs.Rows.{row-applies, rows_behind, rows_end}
 use Rattle.model.proofs.Keeps.{open-valid, in-visible, in-view-own}
 use Rattle.model.proofs.Groups.{reaches_of, reaches_more, steps_first, seen_few, seen-reached, seen-above, seen_below, seen-is, seen_all, seen-short, missing-count}
 use Rattle.path.proofs.Steps.{length-steps}
-use Rattle.partition.specs.Place.{Formed, place_of, Found}
+use Rattle.partition.specs.Place.{place_of, Found}
 use Rattle.reach.specs.Before.{steps_before}
 use Rattle.reach.proofs.Before.{before-few, before-own, before-foreign, before-ends, valid-ascend}
 use Rattle.store.specs.Opened.{Opened, below_at, Within}
 use Rattle.store.proofs.Parts.{not-above}
-use Rattle.store.proofs.Lending.{own-part}
-use Rattle.table.specs.declared.placing.Placed.TheVariants.{Refused, At}
+use Rattle.std.specs.Prelude.{Ok, Err}
+use Rattle.promise.specs.declared.Refusal.TheVariants as refusals
 use Rattle.table.specs.Placed.{Absent, Searched, Places}
-use Rattle.table.proofs.Walking.{told-yes, told-no, failed, held, opened-own, found-live, found-place, own-set, counted, own-few}
+use Rattle.table.proofs.Walking.{told-yes, told-no, failed, held, found-live, found-place, own-set, counted, own-few}
 
 -- the steps of a good path are valid
 pub good-valid : (p : List ℕ) → T (good_path p) → T (valid_path (steps_of p))
@@ -160,8 +160,8 @@ unfolding own_behind
 all_seen s v p w = rw (seen_all v p w, drop_of_length-le p {i = length p} (omega arith)) tt
 
 -- the last label is another
-pub place-six : (s : ℕ) (b : List ℕ) (p : List Step) {r : Bool} → r ≡ ends_in s p → r ≡ false → Places (Refused 6) s b p
-place-six s b p e h = (row-applies _ _ (failed e h), λ z. absurd (omega arith))
+pub place-six : (s : ℕ) (b : List ℕ) (p : List Step) {r : Bool} → r ≡ ends_in s p → r ≡ false → Places (Err refusals.OtherLabel) s b p
+place-six s b p e h = row-applies _ _ (failed e h)
 
 module _ {s : ℕ} {b : List ℕ} (o : Opened b s) (p : List ℕ) (good : T (good_path p)) {r : Bool} (e : r ≡ ends_in s (steps_of p)) (h : r ≡ true)
     {x : List ℕ} (g : (x ≡ partition s b) × (length x ≡ partition_size)) {at : ℕ} {t : Bool} (found : Found x (steps_of p) at t) where
@@ -172,14 +172,14 @@ module _ {s : ℕ} {b : List ℕ} (o : Opened b s) (p : List ℕ) (good : T (goo
   is_live = found-live o g (steps_of p) e h found
 
   -- it is there: so it is in view
-  pub place-eight : t ≡ true → Places (Refused 8) s b (steps_of p)
+  pub place-eight : t ≡ true → Places (Err refusals.Live) s b (steps_of p)
   place-eight y =
       let here : T (contains (own_set s (open_model b)) (steps_of p)) = rw (live_own s (open_model b) (steps_of p) ends) at (told-yes is_live y) in
       let d = contains-in (own_set s (open_model b)) (steps_of p) here in
       let v : List Element = visible s (open_model b) in
       let reached : T (reaches v (steps_of p)) =
       reaches_of v d.0 (in-visible s s (open_model b) (dominates-refl s o.label) d.1) (steps_of p) (rw (← d.2) (prefix_refl (steps_of p))) in
-      (rows_behind (row 6 _ ∷ row 7 _ ∷ []) _ (held e h, (all_seen s v (steps_of p) reached, tt)) (row-applies _ _ (told-yes is_live y)), λ z. absurd (omega arith))
+      rows_behind (row 6 _ ∷ row 7 _ ∷ []) _ (held e h, (all_seen s v (steps_of p) reached, tt)) (row-applies _ _ (told-yes is_live y))
 
   -- it is not
   pub place-absent : t ≡ false → Absent b s p at
@@ -195,9 +195,9 @@ module _ {s : ℕ} {b : List ℕ} (o : Opened b s) (p : List ℕ) (good : T (goo
 -- ---- rows 7 and 9 of a path that is not there
 
 module _ {s : ℕ} {b p : List ℕ} {at : ℕ} (a : Absent b s p at) {x : List ℕ} (g : (x ≡ partition s b) × (length x ≡ partition_size)) where
-  -- the subject's own partition
-  pub absent-part : Formed x × (at ≡ place_of (steps_of p) (read_partition x))
-  absent-part = (own-part (opened-own a.opened) g.0, a.place ∙ ap (place_of (steps_of p)) (own-set a.opened g))
+  -- its place in the subject's own partition
+  pub absent-part : at ≡ place_of (steps_of p) (read_partition x)
+  absent-part = a.place ∙ ap (place_of (steps_of p)) (own-set a.opened g)
 
   module _ {more lower : ℕ} (i : more ≡ seen_steps (read_partition x) (steps_of p)) (j : lower ≡ steps_before s (steps_of p)) where
     pub absent-searched : Searched b s p more lower
@@ -213,8 +213,8 @@ module _ {s : ℕ} {b p : List ℕ} {at : ℕ} (a : Absent b s p at) {x : List �
       not_live = rw (live_own s (open_model b) (steps_of p) a.ends) a.lacks
 
       -- a step of another label is missing
-      pub place-seven : w ≡ true → Places (Refused 7) s b (steps_of p)
-      place-seven z = (rows_behind (row 6 _ ∷ []) _ (last, tt) (row-applies _ _ (told-yes q z)), λ z. absurd (omega arith))
+      pub place-seven : w ≡ true → Places (Err refusals.Absent) s b (steps_of p)
+      place-seven z = rows_behind (row 6 _ ∷ []) _ (last, tt) (row-applies _ _ (told-yes q z))
 
       module _ (z : w ≡ false) {n : ℕ} (k : n ≡ max more lower) where
         -- none is, so so many first steps are in view
@@ -230,7 +230,7 @@ module _ {s : ℕ} {b p : List ℕ} {at : ℕ} (a : Absent b s p at) {x : List �
             let few : seen_steps (visible s (open_model b)) (steps_of p) < length (steps_of p) = seen-short s (open_model b) (open-valid b) (steps_of p) a.ends a.lacks in
             omega (arith, place-seen, length-steps p)
 
-        module _ {c : ℕ} (l : (c ≡ count x) × (c < 256)) where
+        module _ {c : ℕ} (l : c ≡ count x) where
           -- the elements that are there and those that come
           full : ℕ
           full = length (own_set s (open_model b)) + length (missing_paths (seen_steps (visible s (open_model b)) (steps_of p)) (steps_of p)) + 1
@@ -240,14 +240,14 @@ module _ {s : ℕ} {b p : List ℕ} {at : ℕ} (a : Absent b s p at) {x : List �
           full_is = omega (arith, counted a.opened g l, missing-lent (visible s (open_model b)) p place-seen, place_short)
 
           -- too few slots are free
-          pub place-nine : 32 - c < length p / 3 - n → Places (Refused 9) s b (steps_of p)
+          pub place-nine : 32 - c < length p / 3 - n → Places (Err refusals.Full) s b (steps_of p)
           unfolding full
           place-nine u =
               let v : 32 < full = omega (arith, own-few a.opened g l, full_is) in
-              (rows_behind (row 6 _ ∷ row 7 _ ∷ row 8 _ ∷ []) _ (last, (told-no q z, (not_live, tt))) (row-applies _ _ (yes_ltb v)), λ z. absurd (omega arith))
+              rows_behind (row 6 _ ∷ row 7 _ ∷ row 8 _ ∷ []) _ (last, (told-no q z, (not_live, tt))) (row-applies _ _ (yes_ltb v))
 
           -- enough are
-          pub place-free : length p / 3 - n ≤ 32 - c → Places (At at n) s b (steps_of p)
+          pub place-free : length p / 3 - n ≤ 32 - c → Places (Ok (record { at = at; seen = n })) s b (steps_of p)
           unfolding full
           place-free u =
               let v : full ≤ 32 = omega (arith, own-few a.opened g l, full_is) in

@@ -1,5 +1,5 @@
--- What goes on behind rows 6 and 7 of an element that is there: nothing, or the element's slot.
-use mathlib.Core.Path.{◌≡◌, refl, ap, subst, ◌∙◌}
+-- What goes on behind rows 6 and 7 of an element that is there: the element's slot.
+use mathlib.Core.Path.{◌≡◌, refl, ap, ◌∙◌}
 use mathlib.Core.List.{List}
 use Prim.Native.Nat.{ℕ, ◌<◌}
 use lib.ListN.{length}
@@ -12,41 +12,27 @@ use Rattle.model.specs.Model.{open_model, own_set}
 use Rattle.model.specs.Rows.{row_code, own_live_rows}
 use Rattle.model.specs.Call.{replaced}
 use Rattle.model.proofs.Order.{ascending-sorted}
-use Rattle.model.proofs.Rows.{Passes, rows_pass}
+use Rattle.model.proofs.Rows.{rows_pass}
 use Rattle.model.proofs.Keeps.{open-valid}
 use Rattle.model.proofs.Operations.{rows-own-live}
 use Rattle.partition.specs.Place.{place_of, replaced_at}
 use Rattle.partition.proofs.Placing.{Stands, stands}
-use Rattle.table.specs.declared.own.Owned.{Owned}
-use Rattle.table.specs.declared.own.Owned.TheVariants.{Refused, Slot}
-use Rattle.table.specs.Owned.{Owns}
 
-module _ (s : ℕ) (b : List ℕ) (p : List Step) (r : Owned) (d : Owns r s b p) where
-  -- refused by one of the rows
-  pub own-refused : {k : ℕ} → r ≡ Refused k → (k ≡ row_code (own_live_rows s (open_model b) p)) × (k ≡ 0 → ⊥)
-  own-refused e = subst (λ (x : Owned). Owns x s b p) e d
+module _ (s : ℕ) (b : List ℕ) (p : List Step) {i : ℕ} (d : (0 ≡ row_code (own_live_rows s (open_model b) p)) × (i ≡ place_of p (own_set s (open_model b)))) where
+  -- the rows pass, and the subject's set has the path at that place
+  standing : Stands p (own_set s (open_model b))
+  standing =
+      stands p (own_set s (open_model b)) (ascending-sorted rank (own_set s (open_model b)) (open-valid b s).ascends)
+      (rows-own-live s (open_model b) p (rows_pass (own_live_rows s (open_model b) p) tt d.0 refl)).1
 
-  -- in its slot: the rows pass, and the subject's set has the path at that place
-  module _ {i : ℕ} (e : r ≡ Slot i) where
-    pub own-passes : Passes (own_live_rows s (open_model b) p)
-    own-passes = rows_pass (own_live_rows s (open_model b) p) tt (subst (λ (x : Owned). Owns x s b p) e d).0 refl
+  -- so there is its slot
+  pub own-used : i < length (own_set s (open_model b))
+  own-used = rw d.1 standing.within
 
-    -- where the path stands, and what is its slot
-    pub own-place : i ≡ place_of p (own_set s (open_model b))
-    own-place = (subst (λ (x : Owned). Owns x s b p) e d).1
-
-    standing : Stands p (own_set s (open_model b))
-    standing =
-        stands p (own_set s (open_model b)) (ascending-sorted rank (own_set s (open_model b)) (open-valid b s).ascends)
-        (rows-own-live s (open_model b) p own-passes).1
-
-    pub own-used : i < length (own_set s (open_model b))
-    own-used = rw own-place standing.within
-
-    -- the store in which the slot has another content is the one in which the path has it
-    pub own-replaced : (c : Content) {x : List ℕ} → x ≡ replace s (layout (replaced_at i c (own_set s (open_model b)))) b
-        → x ≡ replace s (layout (replaced p c (own_set s (open_model b)))) b
-    own-replaced c g =
-        g
-        ∙ ap (λ (k : ℕ). replace s (layout (replaced_at k c (own_set s (open_model b)))) b) own-place
-        ∙ ap (λ (es : List Element). replace s (layout es) b) (standing.is c)
+  -- the store in which the slot has another content is the one in which the path has it
+  pub own-replaced : (c : Content) {x : List ℕ} → x ≡ replace s (layout (replaced_at i c (own_set s (open_model b)))) b
+      → x ≡ replace s (layout (replaced p c (own_set s (open_model b)))) b
+  own-replaced c g =
+      g
+      ∙ ap (λ (k : ℕ). replace s (layout (replaced_at k c (own_set s (open_model b)))) b) d.1
+      ∙ ap (λ (es : List Element). replace s (layout es) b) (standing.is c)

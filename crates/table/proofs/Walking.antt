@@ -2,11 +2,12 @@
 use mathlib.Core.Path.{◌≡◌, refl, sym, ap, subst, ◌∙◌}
 use mathlib.Core.Bool.{Bool, true, false, not, ◌||◌}
 use mathlib.Core.List.{List}
-use Prim.Native.Nat.{ℕ, ◌-◌, ◌≤◌, ◌<◌}
+use Prim.Native.Nat.{ℕ, ◌≤◌, ◌<◌}
 use native.Mathlib.Omega.{arith}
 use borrow.Author.Tests.{eq-eqb, ne_eqb}
 use lib.ListN.{length}
 use lib.Dec.{T, eqb}
+use Rattle.std.specs.Prelude.{Option, Some, None, is_none, ok_or, Result, Ok, Err}
 use mir.Facts.{yes_eqb, no_eqb, yes_ltb, no_ltb}
 use Rattle.model.specs.Label.{is_label}
 use Rattle.model.specs.Path.{Step, ends_in}
@@ -27,8 +28,9 @@ use Rattle.store.specs.Opened.{Opened, Own}
 use Rattle.store.proofs.Parts.{held-formed}
 use Rattle.store.proofs.Viewing.{opened-formed, opened-set}
 use Rattle.store.proofs.Lending.{own-part}
-use Rattle.table.specs.declared.Opening.TheVariants.{Refused, Open}
-use Rattle.table.specs.Opening.{Lent, Opens}
+use Rattle.promise.specs.declared.Refusal.{Refusal}
+use Rattle.promise.specs.declared.Refusal.TheVariants.{StoreLength, Subject, NotWellFormed}
+use Rattle.table.specs.Opening.{Lent, Opens, Forms}
 
 -- ---- a test that the code made
 
@@ -49,24 +51,27 @@ held {t = t} e h = yes-not-not t (told-yes e h)
 -- ---- rows 1 to 3
 
 module _ (s : ℕ) (b : List ℕ) where
-  pub open-one : (length b ≡ store_size → ⊥) → Opens (Refused 1) s b
+  pub open-one : (length b ≡ store_size → ⊥) → Opens (Err StoreLength) s b
   unfolding open_model
-  open-one h = (row-applies _ _ (no_eqb h), λ z. absurd (omega arith))
+  open-one h = row-applies _ _ (no_eqb h)
 
-  pub open-two : length b ≡ store_size → 32 ≤ s → Opens (Refused 2) s b
+  pub open-two : length b ≡ store_size → 32 ≤ s → Opens (Err Subject) s b
   unfolding open_model is_label
-  open-two e h = (
-    rows_behind (size_rows (open_model b)) (label_rows s) (yes-not-not (eqb (length b) store_size) (yes_eqb e), tt) (row-applies _ _ (no_ltb h)),
-    λ z. absurd (omega arith),
-  )
+  open-two e h =
+      rows_behind (size_rows (open_model b)) (label_rows s) (yes-not-not (eqb (length b) store_size) (yes_eqb e), tt) (row-applies _ _ (no_ltb h))
 
-  pub open-both : length b ≡ store_size → s < 32 → Opens (Open s) s b
+  pub open-both : length b ≡ store_size → s < 32 → Opens (Ok s) s b
   unfolding is_label
   open-both e h = (refl, record { size = e; label = yes_ltb h })
 
 -- where the partitions are well formed too the store is open to the label
 pub lent-opened : {b : List ℕ} {s : ℕ} → Lent b s → {r : Bool} → r ≡ some_raw s (open_model b) → r ≡ false → Opened b s
 lent-opened l e h = record { size = l.size; label = l.label; formed = told-no e h }
+
+-- so what tells whether a partition is malformed gives the store or the refusal
+pub lent-forms : {b : List ℕ} {s : ℕ} → Lent b s → {A : Type 0} (x : Option A) → is_none x ≡ some_raw s (open_model b) → {r : Result A Refusal} → r ≡ ok_or x NotWellFormed → Forms r s b
+lent-forms l None e q = rw q (row-applies _ _ (told-yes e refl))
+lent-forms l (Some x) e q = rw q (lent-opened l e refl)
 
 -- his own partition is well formed
 pub opened-own : {b : List ℕ} {s : ℕ} → Opened b s → Own b s
@@ -109,9 +114,9 @@ module _ {s : ℕ} {b : List ℕ} (o : Opened b s) {x : List ℕ} (g : (x ≡ pa
   pub found-place : (p : List Step) {at : ℕ} {f : Bool} → Found x p at f → at ≡ place_of p (own_set s (open_model b))
   found-place p h = h.at-is ∙ ap (place_of p) (sym own-set)
 
-  pub counted : {n : ℕ} → (n ≡ count x) × (n < 256) → n ≡ length (own_set s (open_model b))
-  counted k = k.0 ∙ sym (ap length own-set ∙ length-elements (own-part (opened-own o) g.0))
+  pub counted : {n : ℕ} → n ≡ count x → n ≡ length (own_set s (open_model b))
+  counted k = k ∙ sym (ap length own-set ∙ length-elements (own-part (opened-own o) g.0))
 
   -- there are at most 32
-  pub own-few : {n : ℕ} → (n ≡ count x) × (n < 256) → n ≤ 32
+  pub own-few : {n : ℕ} → n ≡ count x → n ≤ 32
   own-few k = omega (arith, counted k, (open-valid b s).few)

@@ -1,48 +1,64 @@
-// The table of refusals walked in groups that calls share: the number of the first row of a group that applies, or 0, or what is gone
-// on with. Nothing is written here.
+// The table of refusals walked in groups that calls share: the refusal of the first row of a group that applies, or what is gone on with.
+// Nothing is written here.
 #![tactic(auto)]
 
 mod look;
 mod own;
 mod placing;
 
-ghost use Rattle.std.specs.Prelude.{◌≡◌};
-ghost use Rattle.model.specs.Rows.{row_code, bring_rows};
-ghost use Rattle.table.specs.Opening.{Opens};
+ghost use Rattle.std.specs.Prelude.{◌≡◌, IfOk};
+ghost use Rattle.model.specs.Rows.{row_code, path_rows, bring_rows};
+ghost use Rattle.kind.specs.Code.{code};
+ghost use Rattle.promise.specs.Refusals.{number_of};
+ghost use Rattle.table.specs.Opening.{Lent, Opens, Forms};
 
-pub use look::{is_view_path, look_row};
-pub use own::{Owned, own_slot};
+use kind::Kind;
+pub use look::{check_seen, check_view_path};
+pub use own::own_slot;
 pub use placing::{Placed, place};
+use promise::Refusal;
+use store::Reader;
 
-// What rows 1 and 2 say of a subject's call: it is refused by one of them, or it goes on for his label.
-#[derive(Drop)]
-pub enum Opening {
-    Refused(u32),
-    Open(u8),
-}
-
-// Rows 1 and 2: the store's length, then the subject.
-pub fn open(store: &[u8], subject: u32) -> Opening
+// Rows 1 and 2: the store's length, then the subject. What is gone on with is his label.
+pub fn open(store: &[u8], subject: u32) -> Result<u8, Refusal>
     ensures { Opens result subject store.now }
 {
     if store.len() != 41088 {
-        return Opening::Refused(1);
+        return Err(Refusal::StoreLength);
     }
     if 32 <= subject {
-        return Opening::Refused(2);
+        return Err(Refusal::Subject);
     }
-    Opening::Open(subject as u8)
+    Ok(subject as u8)
 }
 
-// Rows 4 and 5 of a call that brings a value: the path, then the kind and the value.
-pub fn bring_row(path: &[u8], kind: u32, value: &[u8]) -> u32
-    ensures { result ≡ row_code (bring_rows path.now (record { kind = kind; value = value.now })) }
+// Row 3: the partitions that the label dominates. What is gone on with is the label as a reader.
+pub fn check_formed(store: &[u8], label: u8) -> Result<Reader<'_>, Refusal>
+    requires { Lent store.now label }
+    ensures formed { Forms result label store.now }
+    ensures same { IfOk result (λ r. (r.store.now ≡ store.now) × (r.subject ≡ label)) }
+{
+    Reader::open(store, label).ok_or(Refusal::NotWellFormed)
+}
+
+// Row 4: the path.
+pub fn check_path(path: &[u8]) -> Result<(), Refusal>
+    ensures { number_of result ≡ row_code (path_rows path.now) }
 {
     if !path::is_path(path) {
-        return 4;
+        return Err(Refusal::Path);
     }
-    if !kind::is_allowed(kind, value) {
-        return 5;
+    Ok(())
+}
+
+// Rows 4 and 5 of a call that brings a value: the path, then the kind and the value. What is gone on with is the kind.
+pub fn check_brought(path: &[u8], kind: u32, value: &[u8]) -> Result<Kind, Refusal>
+    ensures refused { number_of result ≡ row_code (bring_rows path.now (record { kind = kind; value = value.now })) }
+    ensures known { IfOk result (λ k. code k ≡ kind) }
+{
+    check_path(path)?;
+    match Kind::try_from(kind) {
+        Ok(known) if known.allows(value) => Ok(known),
+        _ => Err(Refusal::Value),
     }
-    0
 }

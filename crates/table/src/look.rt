@@ -1,29 +1,30 @@
 // Rows 4 and 7 of a reading call.
 ghost use Rattle.std.specs.Prelude.{◌≡◌};
 ghost use Rattle.model.specs.Model.{open_model};
-ghost use Rattle.model.specs.Rows.{view_path, row_code, look_rows};
-ghost use Rattle.store.specs.Opened.{Opened};
+ghost use Rattle.model.specs.Rows.{row_code, view_path_rows, look_rows};
+ghost use Rattle.promise.specs.Refusals.{number_of};
 
-// Whether a reading call may be asked for the path: the root, or a path.
-pub fn is_view_path(path: &[u8]) -> bool
-    ensures { result ≡ view_path path.now }
+use crate::check_path;
+use promise::Refusal;
+use store::Reader;
+
+// Row 4 of a reading call, which may be asked for the root too.
+pub fn check_view_path(path: &[u8]) -> Result<(), Refusal>
+    ensures { number_of result ≡ row_code (view_path_rows path.now) }
 {
-    if path.len() == 0 {
-        return true;
+    if path.is_empty() {
+        return Ok(());
     }
-    path::is_path(path)
+    check_path(path)
 }
 
 // Rows 4 and 7 of a reading call: the path, then whether it is in view.
-pub fn look_row(store: &[u8], subject: u8, path: &[u8]) -> u32
-    requires { Opened store.now subject }
-    ensures { result ≡ row_code (look_rows subject (open_model store.now) path.now) }
+pub fn check_seen(reader: &Reader<'_>, path: &[u8]) -> Result<(), Refusal>
+    ensures { number_of result ≡ row_code (look_rows reader.now.subject (open_model reader.now.store.now) path.now) }
 {
-    if !is_view_path(path) {
-        return 4;
+    check_view_path(path)?;
+    if !reader.in_view(path) {
+        return Err(Refusal::Absent);
     }
-    if !store::in_view(store, subject, path) {
-        return 7;
-    }
-    0
+    Ok(())
 }

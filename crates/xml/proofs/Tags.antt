@@ -3,7 +3,7 @@ use mathlib.Core.Path.{◌≡◌, refl, sym, ap, ◌∙◌}
 use mathlib.Core.Bool.{Bool, true, false, not, cond}
 use mathlib.Core.Option.{none, some}
 use mathlib.Core.List.{List, [], ◌∷◌, ◌++◌, append_assoc}
-use Prim.Native.Nat.{ℕ, zero, suc, ◌+◌, ◌*◌, ◌≤◌, ◌<◌}
+use Prim.Native.Nat.{ℕ, suc, ◌+◌, ◌*◌, ◌≤◌, ◌<◌}
 use native.Mathlib.Omega.{arith}
 use native.Mathlib.Numerals.{add-one}
 use lib.ListN.{length, drop, get_or, drop_of_length-le}
@@ -17,7 +17,10 @@ use Rattle.model.specs.Text.{ascii, decimal, measure_of, signed}
 use Rattle.model.specs.View.{letter}
 use Rattle.model.specs.Xml.{escaped, value_xml, start_tag, end_tag, outer_tag}
 use Rattle.model.proofs.Bools.{decide, cond_yes, cond_no}
+use Rattle.kind.specs.declared.Kind.{Kind}
+use Rattle.kind.specs.declared.Kind.TheVariants.{Group, Measure, Text}
 use Rattle.kind.specs.declared.Rule.{Rule}
+use Rattle.kind.specs.Code.{code}
 use Rattle.kind.specs.Rule.{rule_of}
 use Rattle.kind.proofs.Rules.{never}
 use Rattle.text.specs.Overlay.{Wrote}
@@ -29,11 +32,11 @@ unfolding start_tag
 removed-tag a = simp append_assoc
 
 -- a live element's, by its letter
-pub present-tag : (a : Step) {x k n : ℕ} → x ∷ [] ≡ letter n → (n ≡ k) × (n < 256)
+pub present-tag : (a : Step) (k : ℕ) {x : ℕ} → x ∷ [] ≡ letter k
     → tag_start a ++ (ascii "\" preserve=\"PRESENT\" kind=\"" ++ ((x ∷ []) ++ ascii "\">")) ≡ start_tag a (some (record { kind = k; value = [] }))
 unfolding start_tag
-present-tag a {k = k} e f =
-    ap (λ (l : List ℕ). tag_start a ++ (ascii "\" preserve=\"PRESENT\" kind=\"" ++ (l ++ ascii "\">"))) (e ∙ ap letter f.0)
+present-tag a k e =
+    ap (λ (l : List ℕ). tag_start a ++ (ascii "\" preserve=\"PRESENT\" kind=\"" ++ (l ++ ascii "\">"))) e
     ∙ simp append_assoc
 
 pub start-parts : (a : Step) → ascii "<e" ++ (decimal a.name ++ (ascii " label=\"" ++ decimal a.label)) ≡ tag_start a
@@ -55,29 +58,28 @@ same_tag a k v w = refl
 -- ---- values
 
 -- the rule of a number is a measure's
-pub xml-number : (k : ℕ) (v : List ℕ) → (rule_of k).number ≡ true → signed (measure_of v) ≡ value_xml k v
+pub xml-number : (k : Kind) (v : List ℕ) → (rule_of k).number ≡ true → signed (measure_of v) ≡ value_xml (code k) v
 unfolding value_xml rule_of
-xml-number zero v e = never e
-xml-number (suc zero) v e = refl
-xml-number (suc (suc zero)) v e = never e
-xml-number (suc (suc (suc k))) v e = never e
+xml-number Group v e = never e
+xml-number Measure v e = refl
+xml-number Text v e = never e
 
 -- of the others a group has no characters
-pub xml-text : (k : ℕ) (v : List ℕ) → T (allowed k v) → (rule_of k).number ≡ false → gather escaped v ≡ value_xml k v
+pub xml-text : (k : Kind) (v : List ℕ) → T (allowed (code k) v) → (rule_of k).number ≡ false → gather escaped v ≡ value_xml (code k) v
 unfolding value_xml allowed rule_of
-xml-text zero [] t e = refl
-xml-text zero (x ∷ v) t e = let l : length (x ∷ v) ≡ 0 = eqb_yes t in absurd (omega arith)
-xml-text (suc zero) v t e = never (sym e)
-xml-text (suc (suc k)) v t e = refl
+xml-text Group [] t e = refl
+xml-text Group (x ∷ v) t e = let l : length (x ∷ v) ≡ 0 = eqb_yes t in absurd (omega arith)
+xml-text Measure v t e = never (sym e)
+xml-text Text v t e = refl
 
-module _ {k n : ℕ} (v : List ℕ) (t : T (allowed k v)) {r : Rule} (f : (n ≡ k) × (n < 256)) (e : r ≡ rule_of n) where
+module _ (k : Kind) (v : List ℕ) (t : T (allowed (code k) v)) {r : Rule} (e : r ≡ rule_of k) where
   number_is : {b : Bool} → r.number ≡ b → (rule_of k).number ≡ b
-  number_is h = ap (λ (x : Rule). x.number) (sym (e ∙ ap rule_of f.0)) ∙ h
+  number_is h = ap (λ (x : Rule). x.number) (sym e) ∙ h
 
-  pub xml-as-number : r.number ≡ true → {m : ℕ} → m ≡ measure_of v → signed m ≡ value_xml k v
+  pub xml-as-number : r.number ≡ true → {m : ℕ} → m ≡ measure_of v → signed m ≡ value_xml (code k) v
   xml-as-number h g = ap signed g ∙ xml-number k v (number_is h)
 
-  pub xml-as-text : r.number ≡ false → gather escaped v ≡ value_xml k v
+  pub xml-as-text : r.number ≡ false → gather escaped v ≡ value_xml (code k) v
   xml-as-text h = xml-text k v t (number_is h)
 
 -- ---- characters

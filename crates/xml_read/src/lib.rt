@@ -3,28 +3,29 @@
 // is needed to put them in.
 #![tactic(auto)]
 
-ghost use Rattle.std.specs.Prelude.{◌≡◌, ◌&&◌, [], ◌∷◌, ◌+◌, ◌≤◌, ◌<◌, length};
+ghost use Rattle.std.specs.Prelude.{◌≡◌, ◌&&◌, [], ◌∷◌, ◌+◌, ◌≤◌, length};
 ghost use Rattle.xml_read.specs.Records.{Marked};
 ghost use Rattle.xml_read.specs.Trees.{own_shown, HeadAt, TreeAt, PartAt, SentBy};
 
-use scan_tag::{EndRead, TagRead};
-use scan_value::ValueRead;
+use kind::Kind;
+
+// What is kept of an element: how many steps are above it, its name, what it shows, and where its value begins.
+#[derive(Clone, Copy)]
+pub struct Mark {
+    pub steps: usize,
+    pub name: u64,
+    pub shown: Option<Kind>,
+    pub place: usize,
+}
 
 // An element's step, what it shows, and where its value begins and ends.
 #[derive(Drop)]
 struct Head {
     name: u64,
     label: u64,
-    shown: u8,
+    shown: Option<Kind>,
     value: usize,
     next: usize,
-}
-
-// An element's tag and value, if they stand there.
-#[derive(Drop)]
-enum HeadRead {
-    Is(Head),
-    None,
 }
 
 // A tree: its step, where it ends, how many elements it has, and whether each is live and bears the subject's label.
@@ -37,13 +38,6 @@ pub struct Tree {
     pub own: bool,
 }
 
-// A tree, if one stands there.
-#[derive(Drop)]
-pub enum TreeRead {
-    Is(Tree),
-    None,
-}
-
 // The trees inside an element: where they end, how many elements they have, and whether each is live and bears the subject's label.
 #[derive(Drop)]
 struct Part {
@@ -52,26 +46,15 @@ struct Part {
     own: bool,
 }
 
-// The trees inside an element, if it goes on so.
-#[derive(Drop)]
-enum PartRead {
-    Is(Part),
-    None,
-}
-
 // The tag and the value of an element at a place.
-fn head_at(text: &[u8], at: usize) -> HeadRead
+fn head_at(text: &[u8], at: usize) -> Option<Head>
     requires { at ≤ length text.now }
     ensures { HeadAt text.now at result }
 {
-    let TagRead::Is(tag) = scan_tag::tag_at(text, at) else {
-        return HeadRead::None;
-    };
+    let tag = scan_tag::tag_at(text, at)?;
     let mut value = [0u8; 16];
-    let ValueRead::Is(_, next) = scan_value::value_at(text, tag.next, tag.shown, &mut value) else {
-        return HeadRead::None;
-    };
-    HeadRead::Is(Head {
+    let (_, next) = scan_value::value_at(text, tag.next, tag.shown, &mut value)?;
+    Some(Head {
         name: tag.name,
         label: tag.label,
         shown: tag.shown,
@@ -81,83 +64,55 @@ fn head_at(text: &[u8], at: usize) -> HeadRead
 }
 
 // Whether an element that shows a kind is live and bears the subject's label, and so do those inside it.
-fn is_own(shown: u8, label: u64, subject: u64, inside: bool) -> bool
+fn is_own(shown: Option<Kind>, label: u64, subject: u64, inside: bool) -> bool
     ensures { result ≡ own_shown shown label subject inside }
 {
-    if shown == 3 {
-        return false;
-    }
-    if label != subject {
-        return false;
-    }
-    inside
+    shown.is_some() && label == subject && inside
 }
 
-// Keeps an element's name, what it shows, how many steps are above it and where its value begins, if fewer than 32 elements are before it.
-fn note(
-    heads: &mut [u64],
-    places: &mut [usize],
-    k: usize,
-    name: u64,
-    shown: u8,
-    depth: usize,
-    value: usize,
-)
-    requires { (length heads.old ≡ 32) × (length places.old ≡ 32) × (name ≤ 65535) × (depth < 6) }
-    ensures { Marked heads.old places.old k heads.new places.new (record { steps = depth; name = name; shown = shown; place = value } ∷ []) }
+// Keeps an element's mark, if fewer than 32 elements are before it.
+fn note(marks: &mut [Mark; 32], k: usize, mark: Mark)
+    ensures { Marked marks.old k marks.new (mark ∷ []) }
 {
-    if 32 <= k {
-        return;
+    if k < 32 {
+        marks[k] = mark;
     }
-    heads[k] = 64 * name + 8 * (shown as u64) + (depth as u64);
-    places[k] = value;
 }
 
-// The tree at a place, below so many steps and behind k elements.
+// The tree at a place, below so many steps and behind k elements. The number k stands beside the array, since it counts on behind the 32 marks
+// that are kept.
 #[cycle(inside_at_tree_at)]
 fn tree_at(
     text: &[u8],
     at: usize,
     depth: usize,
     subject: u64,
-    heads: &mut [u64],
-    places: &mut [usize],
+    marks: &mut [Mark; 32],
     k: usize,
-) -> TreeRead
-    requires { (at ≤ length text.now) × (k ≤ at) × (length heads.old ≡ 32) × (length places.old ≡ 32) }
-    ensures { TreeAt text.now at depth subject (Marked heads.old places.old k heads.new places.new) result }
+) -> Option<Tree>
+    requires { (at ≤ length text.now) × (k ≤ at) }
+    ensures { TreeAt text.now at depth subject (Marked marks.old k marks.new) result }
 {
     if 6 <= depth {
-        return TreeRead::None;
+        return None;
     }
-    let HeadRead::Is(head) = head_at(text, at) else {
-        return TreeRead::None;
+    let head = head_at(text, at)?;
+    let mark = Mark {
+        steps: depth,
+        name: head.name,
+        shown: head.shown,
+        place: head.value,
     };
-    note(heads, places, k, head.name, head.shown, depth, head.value);
-    let PartRead::Is(inside) = inside_at(text, head.next, depth + 1, subject, heads, places, k + 1)
-    else {
-        return TreeRead::None;
-    };
-    let EndRead::Is(next) = scan_tag::end_at(text, inside.next, head.name) else {
-        return TreeRead::None;
-    };
-    TreeRead::Is(Tree {
+    note(marks, k, mark);
+    let inside = inside_at(text, head.next, depth + 1, subject, marks, k + 1)?;
+    let next = scan_tag::end_at(text, inside.next, head.name)?;
+    Some(Tree {
         name: head.name,
         label: head.label,
         next,
         count: inside.count + 1,
         own: is_own(head.shown, head.label, subject, inside.own),
     })
-}
-
-// Whether both hold.
-fn both(a: bool, b: bool) -> bool
-    ensures { result ≡ (a && b) }
-{
-    if !a {
-        return false;
-    }
-    b
 }
 
 // What was read, and a tree behind it.
@@ -168,7 +123,7 @@ fn with_tree(p: Part, t: Tree) -> Part
     Part {
         next: t.next,
         count: p.count + t.count,
-        own: both(p.own, t.own),
+        own: p.own && t.own,
     }
 }
 
@@ -179,12 +134,11 @@ fn inside_at(
     at: usize,
     depth: usize,
     subject: u64,
-    heads: &mut [u64],
-    places: &mut [usize],
+    marks: &mut [Mark; 32],
     k: usize,
-) -> PartRead
-    requires { (at ≤ length text.now) × (k ≤ at) × (length heads.old ≡ 32) × (length places.old ≡ 32) }
-    ensures { PartAt text.now at depth subject (Marked heads.old places.old k heads.new places.new) result }
+) -> Option<Part>
+    requires { (at ≤ length text.now) × (k ≤ at) }
+    ensures { PartAt text.now at depth subject (Marked marks.old k marks.new) result }
 {
     let mut keys = [0u32; 32];
     let mut n: usize = 0;
@@ -193,36 +147,25 @@ fn inside_at(
         count: 0,
         own: true,
     };
+    // A `while`: where the next tree begins is known only when one has been read.
     while !scan::starts(text, p.next, b"</") {
-        let TreeRead::Is(t) = tree_at(text, p.next, depth, subject, heads, places, k + p.count)
-        else {
-            return PartRead::None;
-        };
+        let t = tree_at(text, p.next, depth, subject, marks, k + p.count)?;
         if !siblings::add(text, at, &mut keys, n, t.name, t.label) {
-            return PartRead::None;
+            return None;
         }
         p = with_tree(p, t);
         n += 1;
     }
-    PartRead::Is(p)
+    Some(p)
 }
 
 // The tree that a whole text sends, to be put below so many steps; its first 32 elements are kept.
-pub fn read(
-    text: &[u8],
-    above: usize,
-    subject: u8,
-    heads: &mut [u64],
-    places: &mut [usize],
-) -> TreeRead
-    requires { (length heads.old ≡ 32) × (length places.old ≡ 32) }
-    ensures { SentBy above subject text.now heads.new places.new result }
+pub fn read(text: &[u8], above: usize, subject: u8, marks: &mut [Mark; 32]) -> Option<Tree>
+    ensures { SentBy above subject text.now marks.new result }
 {
-    let TreeRead::Is(t) = tree_at(text, 0, above, subject as u64, heads, places, 0) else {
-        return TreeRead::None;
-    };
+    let t = tree_at(text, 0, above, u64::from(subject), marks, 0)?;
     if t.next < text.len() {
-        return TreeRead::None;
+        return None;
     }
-    TreeRead::Is(t)
+    Some(t)
 }

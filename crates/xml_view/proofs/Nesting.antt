@@ -16,7 +16,7 @@ use Rattle.model.specs.Tree.{Forest, empty, grown, Entry}
 use Rattle.model.specs.Xml.{start_tag, end_tag, content_xml, xml}
 use Rattle.model.proofs.Bools.{decide, cond_yes, cond_no}
 use Rattle.text.specs.Overlay.{Wrote}
-use Rattle.text.proofs.Overlays.{then, wrote_as, over-length, Going, going_start, going_step, going_end}
+use Rattle.text.proofs.Overlays.{then, wrote_as, Going, going_start, going_step, going_end}
 use Rattle.xml_view.specs.Nested.{inner, contents_in, contents, tree, size}
 use Rattle.xml_view.specs.Places.{opening, opens}
 
@@ -142,10 +142,6 @@ first-inside d [] t = let z : ◌≡◌ {A = ℕ} 0 1 = cc in absurd (omega arit
 first-inside d (e ∷ more) t = (e, more, refl, ltb-true d (steps e) t)
 
 module _ {d : ℕ} {es₀ : List Entry} {o : List ℕ} {a : ℕ} {es : List Entry} {o' : List ℕ} {to : ℕ} (w : Writing d es₀ o a es o' to) where
-  pub writing-size : length o' ≡ length o
-  writing-size =
-      sym (over-length o' to (xml (contents d es))) ∙ ap length w.going.laid ∙ over-length o a (xml (contents d es₀))
-
   -- behind the tree of an entry inside, es' is left
   module _ {b : Bool} (t : b ≡ opens d es) (y : b ≡ true) {es' : List Entry} (n : es' ≡ drop (size es) es) where
     pub writing-less : length es' < length es

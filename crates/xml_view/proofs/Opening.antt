@@ -29,32 +29,26 @@ abbrev pub content_of : List ℕ → ℕ → Option Content
 content_of b d = content_at (read_slot b ∷ []) (take (suc d) (read_path b))
 
 module _ {b : List ℕ} (used : Used b) (d : ℕ) where
-  -- name and label, as they are read
-  step-read : {n m l : ℕ} → (n ≡ (step_at b d).name) × (n < 65536) → m ≡ (step_at b d).label → (l ≡ m) × (l < 256)
-      → ◌≡◌ {A = Step} (record { name = n; label = l }) (step_at b d)
-  step-read en em el = λ i. record { name = en.0 i; label = (el.0 ∙ em) i }
-
-  module _ {n m l : ℕ} (en : (n ≡ (step_at b d).name) × (n < 65536)) (em : m ≡ (step_at b d).label) (el : (l ≡ m) × (l < 256))
-      {w : ℕ} (e : (w ≡ depth b) × (w < 256)) where
+  module _ {a : Step} (ea : a ≡ step_at b d) {w : ℕ} (e : (w ≡ depth b) × (w < 256)) where
     -- an element above the slot's own is removed
-    pub opening-removed : d + 1 < w → start_tag (record { name = n; label = l }) none ≡ opening (step_at b d) (content_of b d)
+    pub opening-removed : d + 1 < w → start_tag a none ≡ opening (step_at b d) (content_of b d)
     unfolding read_slot
     opening-removed h =
         let k : length (take (suc d) (read_path b)) ≡ suc d = length-take-le (suc d) (read_path b) (omega (arith, length-path b, e.0)) in
         let c : content_of b d ≡ none = content-shorter (read_slot b) (take (suc d) (read_path b)) (omega (arith, length-path b, e.0)) in
-        ap (λ (a : Step). start_tag a none) (step-read en em el)
+        ap (λ (x : Step). start_tag x none) ea
         ∙ sym (append-nil (start_tag (step_at b d) none))
         ∙ ap (opening (step_at b d)) (sym c)
 
     -- the slot's own is live
     pub opening-live : d < depth b → w ≤ d + 1 → {k : ℕ} {v : List ℕ} → k ≡ (read_content b).kind → v ≡ (read_content b).value
-        → start_tag (record { name = n; label = l }) (some (record { kind = k; value = v })) ++ value_xml k v ≡ opening (step_at b d) (content_of b d)
+        → start_tag a (some (record { kind = k; value = v })) ++ value_xml k v ≡ opening (step_at b d) (content_of b d)
     unfolding read_slot
     opening-live g h {k} {v} ek ev =
         let whole : take (suc d) (read_path b) ≡ read_path b = take_all (suc d) (read_path b) (omega (arith, length-path b, e.0)) in
         let c : content_of b d ≡ some (read_content b) = ap (content_at (read_slot b ∷ [])) whole ∙ content-own (read_slot b) in
         let r : ◌≡◌ {A = Content} (record { kind = k; value = v }) (read_content b) = λ i. record { kind = ek i; value = ev i } in
-        ap (λ (a : Step). opening a (some (record { kind = k; value = v }))) (step-read en em el)
+        ap (λ (x : Step). opening x (some (record { kind = k; value = v }))) ea
         ∙ ap (λ (x : Content). opening (step_at b d) (some x)) r
         ∙ ap (opening (step_at b d)) (sym c)
 

@@ -3,25 +3,24 @@ use mathlib.Core.Path.{◌≡◌, refl, sym, ap, ap₂, ◌∙◌}
 use mathlib.Core.Bool.{Bool, true, false, not}
 use mathlib.Core.Option.{some}
 use mathlib.Core.List.{List, [], ◌∷◌, ◌++◌, map}
-use Prim.Native.Nat.{ℕ, zero, suc, ◌+◌, ◌-◌, ◌/◌, ◌≤◌, ◌<◌}
+use Prim.Native.Nat.{ℕ, zero, suc, ◌+◌, ◌/◌, ◌≤◌, ◌<◌}
 use native.Mathlib.Omega.{arith}
 use native.Mathlib.Numerals.{add-one}
 use lib.ListN.{length, get_or, take, drop, drop_of_length-le}
 use lib.Seq.{drop-cons, length-take-le}
 use lib.Dec.{T, leb, ltb}
-use mir.Facts.{leb_yes, yes_leb, ltb_yes, ltb_no, yes_ltb}
-use Rattle.model.specs.Lists.{gather}
+use mir.Facts.{not_T, leb_yes, yes_leb, ltb_yes, ltb_no, yes_ltb}
+use Rattle.model.specs.Lists.{all, gather}
 use Rattle.model.specs.Sets.{precedes, is_before, ahead, sorted}
-use Rattle.model.specs.Path.{Step, prefixes, last_step}
+use Rattle.model.specs.Path.{Step, prefixes, last_step, steps_of}
 use Rattle.model.specs.Element.{Element, rank}
-use Rattle.model.specs.Slot.{depth, step_at, read_path, read_slot}
+use Rattle.model.specs.Slot.{slot_size, depth, step_at, read_path, read_slot}
 use Rattle.model.specs.View.{content_at}
 use Rattle.model.specs.Tree.{Entry}
 use Rattle.model.proofs.Prefixes.{length-prefixes, prefix-at}
-use Rattle.model.proofs.Bools.{and_l, and_r, decide, same_test}
+use Rattle.model.proofs.Bools.{and_l, and_r, decide, is_false, same_test}
 use Rattle.model.proofs.Lists.{all_get_d}
 use Rattle.path.specs.Common.{common, Compared}
-use Rattle.slot.specs.Slot.{Readable}
 use Rattle.slot.proofs.Reading.{length-path}
 use Rattle.order.specs.Refs.{slot_of, element_of, refers}
 use Rattle.order.proofs.Naming.{ref-valid}
@@ -29,7 +28,28 @@ use Rattle.listing.specs.Walk.{walk_of}
 use Rattle.listing.specs.Used.{Used}
 use Rattle.listing.proofs.Drawing.{last_step_lem}
 use Rattle.listing.proofs.Newer.{newer-drop, common-less}
-use Rattle.xml_view.specs.Places.{entry_at, shown, left_of, left, entry_of, opens, Place, At}
+use Rattle.store.specs.Opened.{Opened}
+use Rattle.order.specs.declared.Seen.{Seen}
+use Rattle.listing.proofs.Walks.{rest-start}
+use Rattle.listing.proofs.Visible.{visible-distinct}
+use Rattle.xml_view.specs.Places.{entry_at, shown, left_of, left, entry_of, opens, Place}
+
+-- a place among references that name elements in path order
+pub record At (s : ℕ) (b rs : List ℕ) (i d : ℕ) : Type 0 where
+  pub opened : Opened b s
+  pub valid : T (all (refers s b) rs)
+  pub ascends : T (sorted rank (map (element_of b) rs))
+  pub place : Place b rs i d
+
+-- of what is seen the references do
+pub seen-at : (v : Seen) {i d : ℕ} → Place v.reader.store.now v.refs.now i d → At v.reader.subject v.reader.store.now v.refs.now i d
+seen-at v p =
+    record {
+      opened = v.reader.opened;
+      valid = v.refers.valid;
+      ascends = rw v.refers.named (rest-start (steps_of v.path.now) (visible-distinct v.reader.subject v.reader.store.now)).rises;
+      place = p;
+    }
 
 -- ---- what is left of the elements
 
@@ -121,14 +141,14 @@ module _ {s : ℕ} {b rs : List ℕ} {i d : ℕ} (p : At s b rs i d) (h : i < le
   pub here-steps : d + 1 ≡ length (entry_of b rs i d).path
   here-steps = sym (length-take-le (suc d) (element_of b (get_or rs i 0)).path (p.place.step h) ∙ sym (add-one d))
 
-  module _ {x : List ℕ} (g : (x ≡ slot_of b (get_or rs i 0)) × Readable x) where
+  module _ {x : List ℕ} (g : x ≡ slot_of b (get_or rs i 0)) where
     pub here-path : read_path x ≡ (element_of b (get_or rs i 0)).path
     unfolding element_of read_slot
-    here-path = ap read_path g.0
+    here-path = ap read_path g
 
     pub here-slot : read_slot x ≡ element_of b (get_or rs i 0)
     unfolding element_of
-    here-slot = ap read_slot g.0
+    here-slot = ap read_slot g
 
     pub here-depth : depth x ≡ length (element_of b (get_or rs i 0)).path
     here-depth = sym (length-path x) ∙ ap length here-path
@@ -136,8 +156,8 @@ module _ {s : ℕ} {b rs : List ℕ} {i d : ℕ} (p : At s b rs i d) (h : i < le
     pub here-step : d < depth x
     here-step = omega (arith, here-depth, p.place.step h)
 
-    pub here-used : Used x
-    here-used = record { size = g.1.size; label = get_or rs i 0 / 32; valid = rw here-slot (ref-valid s b (get_or rs i 0) (ref-at p i h) p.opened) }
+    pub here-used : length x ≡ slot_size → Used x
+    here-used w = record { size = w; label = get_or rs i 0 / 32; valid = rw here-slot (ref-valid s b (get_or rs i 0) (ref-at p i h) p.opened) }
 
     -- the entry there, as the slot shows it
     pub here-content : content_at (read_slot x ∷ []) (take (suc d) (read_path x)) ≡ (entry_of b rs i d).content
@@ -165,14 +185,14 @@ module _ {s : ℕ} {b rs : List ℕ} {i d : ℕ} (p : At s b rs i d) (h : i < le
           record { within = omega arith; step = λ j. absurd (omega arith) },
         )
 
-        pub next-path : i + 1 < length rs → {y : List ℕ} → (y ≡ slot_of b (get_or rs (i + 1) 0)) × Readable y
+        pub next-path : i + 1 < length rs → {y : List ℕ} → y ≡ slot_of b (get_or rs (i + 1) 0)
             → {n : ℕ} {t : Bool} → Compared (read_path x) (read_path y) n t
             → (left b rs i d ≡ entry_of b rs i d ∷ left b rs (i + 1) n) × Place b rs (i + 1) n
         unfolding element_of read_slot
         next-path l {y} f {n} m =
             let q : List Step = (element_of b (get_or rs i 0)).path in
             let r : List Step = (element_of b (get_or rs (i + 1) 0)).path in
-            let shared : n ≡ common q r = m.shared-is ∙ ap₂ (λ (u v : List ℕ). common (read_path u) (read_path v)) g.0 f.0 in
+            let shared : n ≡ common q r = m.shared-is ∙ ap₂ (λ (u v : List ℕ). common (read_path u) (read_path v)) g f in
             let before : T (precedes (rank (element_of b (get_or rs i 0))) (rank (element_of b (get_or rs (i + 1) 0)))) =
             rw (add-one i) (rises b rs i (omega arith) p.ascends) in
             let new : common q r < length r = common-less q r before in (
@@ -182,8 +202,12 @@ module _ {s : ℕ} {b rs : List ℕ} {i d : ℕ} (p : At s b rs i d) (h : i < le
 
 -- ---- the test
 
-pub opens-past : {b rs : List ℕ} {i d : ℕ} (n : ℕ) → Place b rs i d → length rs ≤ i → false ≡ opens n (left b rs i d)
+opens-past : {b rs : List ℕ} {i d : ℕ} (n : ℕ) → Place b rs i d → length rs ≤ i → false ≡ opens n (left b rs i d)
 opens-past {b} {rs} {i} {d} n p h = rw (left-past b rs i d h) refl
+
+-- no row there
+pub opens-none : {b rs : List ℕ} {i d : ℕ} (n : ℕ) → Place b rs i d → length rs ≤ i → ltb i (length rs) ≡ opens n (left b rs i d)
+opens-none {b} {rs} {i} n p h = is_false (ltb i (length rs)) (not_T (ltb i (length rs)) (λ t. let k = ltb_yes t in absurd (omega arith))) ∙ opens-past n p h
 
 pub opens-here : {b rs : List ℕ} {i d : ℕ} (n : ℕ) → Place b rs i d → i < length rs → leb n d ≡ opens n (left b rs i d)
 opens-here {b} {rs} {i} {d} n p h =

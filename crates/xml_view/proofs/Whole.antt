@@ -2,11 +2,12 @@
 use mathlib.Core.Path.{◌≡◌, refl, sym, ap, ap₂, ◌∙◌}
 use mathlib.Core.List.Memᴰ
 use mathlib.Core.List.{List, [], ◌∷◌, ◌++◌}
-use Prim.Native.Nat.{ℕ, ◌+◌, ◌*◌, ◌/◌, ◌≤◌, ◌<◌}
+use Prim.Native.Nat.{ℕ, ◌+◌, ◌*◌, ◌/◌, ◌≤◌}
 use native.Mathlib.Omega.{arith}
 use lib.ListN.{length, get_or, length-append, length-map}
 use lib.Dec.{T}
 use Rattle.model.specs.Lists.{gather}
+use Rattle.model.specs.Label.{is_label}
 use Rattle.model.specs.Path.{Step, parent}
 use Rattle.model.specs.Element.{Element}
 use Rattle.model.specs.Model.{open_model}
@@ -16,6 +17,7 @@ use Rattle.model.specs.Xml.{xml, outer_tag, outer_end, document, xml_of, xml_vie
 use Rattle.model.proofs.Lists.{all_get_d}
 use Rattle.model.proofs.Dominance.{label-lt}
 use Rattle.model.proofs.Prefixes.{parent_shorter}
+use Rattle.text.specs.declared.output.Output.{Output}
 use Rattle.text.specs.Overlay.{Wrote}
 use Rattle.text.proofs.Overlays.{then, wrote_as}
 use Rattle.text.proofs.Widths.{decimal-width}
@@ -29,7 +31,7 @@ use Rattle.listing.proofs.Walks.{Rest, rest-start}
 use Rattle.listing.proofs.Walking.{here-below, few-lines}
 use Rattle.listing.proofs.Visible.{visible-distinct, valid-some}
 use Rattle.xml_view.specs.Nested.{inner, contents}
-use Rattle.xml_view.specs.Places.{shown, left_of, left, At, Room, Put}
+use Rattle.xml_view.specs.Places.{shown, left_of, left, Place, Room, Put}
 use Rattle.xml_view.proofs.Places.{walk-left}
 use Rattle.xml_view.proofs.Spreading.{contents-forest}
 use Rattle.xml_view.proofs.Lengths.{xml-short}
@@ -44,8 +46,8 @@ walk-length r (e ∷ es) =
     rw (length-append (gather (shown (e ∷ [])) (newer r e.path)), length-append (newer r e.path))
     (omega (arith, gather-length (e ∷ []) (newer r e.path), walk-length e.path es))
 
-head-end : {k s : ℕ} → (k ≡ s) × (k < 256) → {x y : List ℕ} {a : ℕ} → Wrote x 0 (outer_tag k) y a → a ≤ 30
-head-end {k} e head = omega (arith, head.ends, outer-length k, decimal-width k 2 (omega (arith, e.1)))
+head-end : {k s : ℕ} → k ≡ s → T (is_label s) → {x y : List ℕ} {a : ℕ} → Wrote x 0 (outer_tag k) y a → a ≤ 30
+head-end {k} {s} e t head = omega (arith, head.ends, outer-length k, decimal-width k 2 (omega (arith, e, label-lt s t)))
 
 -- the walk after the parent of p begins behind its steps
 begun : (v : List Element) (p : List Step) (es : List Element) → Rest v p (parent p) es → left_of es (length (parent p)) ≡ walk_of shown (parent p) es
@@ -60,20 +62,14 @@ module _ {s : ℕ} {b : List ℕ} (p : List Step) {rs : List ℕ} (o : Opened b 
   rest : Rest (visible s (open_model b)) p (parent p) (seen_below s (open_model b) p)
   rest = rest-start p (visible-distinct s b)
 
-  pub start-at : At s b rs 0 d
-  start-at =
+  pub start-place : Place b rs 0 d
+  start-place =
       record {
-        opened = o;
-        valid = r.valid;
-        ascends = rw r.named rest.rises;
-        place =
-            record {
-              within = omega arith;
-              step = λ h.
-                  let t : T (refers s b (get_or rs 0 0)) = all_get_d (refers s b) rs 0 0 h r.valid in
-                  let some = valid-some (get_or rs 0 0 / 32) (element_of b (get_or rs 0 0)) (ref-valid s b (get_or rs 0 0) t o) in
-                  omega (arith, z, parent_shorter p (element_of b (get_or rs 0 0)).path (here-below p r 0 h) some);
-            };
+        within = omega arith;
+        step = λ h.
+            let t : T (refers s b (get_or rs 0 0)) = all_get_d (refers s b) rs 0 0 h r.valid in
+            let some = valid-some (get_or rs 0 0 / 32) (element_of b (get_or rs 0 0)) (ref-valid s b (get_or rs 0 0) t o) in
+            omega (arith, z, parent_shorter p (element_of b (get_or rs 0 0)).path (here-below p r 0 h) some);
       }
 
   start_left : left b rs 0 d ≡ walk_of shown (parent p) (seen_below s (open_model b) p)
@@ -84,21 +80,21 @@ module _ {s : ℕ} {b : List ℕ} (p : List Step) {rs : List ℕ} (o : Opened b 
   few-left : length rs ≤ 1024 → length (left b rs 0 d) ≤ 6144
   few-left h = omega (arith, ap length start_left, walk-length (parent p) (seen_below s (open_model b) p), few-lines p r)
 
-  pub start-room : length rs ≤ 1024 → {k : ℕ} → (k ≡ s) × (k < 256) → {x y : List ℕ} {a : ℕ} → Wrote x 0 (outer_tag k) y a → Room b rs 0 d a
-  start-room h e head = record { fits = omega (arith, few-left h, head-end e head) }
+  pub start-room : length rs ≤ 1024 → {k : ℕ} → k ≡ s → {x y : List ℕ} {a : ℕ} → Wrote x 0 (outer_tag k) y a → Room b rs 0 d a
+  start-room h e head = record { fits = omega (arith, few-left h, head-end e o.label head) }
 
   -- the outer tag, the trees and the outer end tag
-  module _ {k : ℕ} (e : (k ≡ s) × (k < 256)) {x y : List ℕ} {a row step to : ℕ} {w : List ℕ} (head : Wrote x 0 (outer_tag k) y a)
-      (body : Put (contents d) (inner d) b rs 0 d y a w row step to) where
-    pub foot-room : length rs ≤ 1024 → to + 10 ≤ 4294967296
-    foot-room h = omega (arith, few-left h, head-end e head, body.room)
+  module _ {t u : Output} {row step : ℕ} (body : Put (contents d) (inner d) b rs 0 d t u row step) {k : ℕ} (e : k ≡ s)
+      {x : List ℕ} (head : Wrote x 0 (outer_tag k) t.bytes.now t.at) where
+    pub foot-room : length rs ≤ 1024 → u.at + 10 ≤ 4294967296
+    foot-room h = omega (arith, few-left h, head-end e o.label head, body.room)
 
-    pub whole-wrote : {u : List ℕ} {c : ℕ} → Wrote w to outer_end u c → Wrote x 0 (xml_view s (open_model b) p) u c
+    pub whole-wrote : {o : List ℕ} {c : ℕ} → Wrote u.bytes.now u.at outer_end o c → Wrote x 0 (xml_view s (open_model b) p) o c
     unfolding xml_view xml_of document
     whole-wrote foot =
         let f : contents d (left b rs 0 d) ≡ forest (visible s (open_model b)) p =
         ap₂ contents z start_left ∙ contents-forest (visible s (open_model b)) p (visible-distinct s b) in
-        wrote_as (ap₂ (λ (n : ℕ) (g : Forest). outer_tag n ++ (xml g ++ outer_end)) e.0 f) (then head (then body.wrote foot))
+        wrote_as (ap₂ (λ (n : ℕ) (g : Forest). outer_tag n ++ (xml g ++ outer_end)) e f) (then head (then body.wrote.1 foot))
 
 -- the XML's length by the references
 pub refs-short : {s : ℕ} {b : List ℕ} (p : List Step) {rs : List ℕ} → Opened b s → Refers s b rs (seen_below s (open_model b) p)

@@ -1,17 +1,16 @@
 -- Places in the walk over references: a reference, and how many steps the path listed there has beside its last.
-use Rattle.std.specs.Prelude.{◌≡◌, Bool, false, List, [], ◌∷◌, ◌++◌, map, ℕ, suc, ◌+◌, ◌*◌, ◌≤◌, ◌<◌, length, get_or, take, drop, T, ltb}
+use Rattle.std.specs.Prelude.{◌≡◌, Bool, false, List, [], ◌∷◌, ◌++◌, map, ℕ, suc, ◌+◌, ◌*◌, ◌≤◌, ◌<◌, length, get_or, take, drop, ltb}
 use Rattle.std.proofs.Math.Option.{Option}
-use Rattle.model.specs.Lists.{all, gather}
-use Rattle.model.specs.Sets.{sorted}
+use Rattle.model.specs.Lists.{gather}
 use Rattle.model.specs.Path.{Step, prefixes}
 use Rattle.model.specs.Value.{Content}
-use Rattle.model.specs.Element.{Element, rank}
+use Rattle.model.specs.Element.{Element}
 use Rattle.model.specs.View.{content_at}
 use Rattle.model.specs.Tree.{Forest, Entry}
 use Rattle.model.specs.Xml.{start_tag, content_xml, xml}
-use Rattle.text.specs.Overlay.{Wrote}
-use Rattle.store.specs.Opened.{Opened}
-use Rattle.order.specs.Refs.{element_of, refers}
+use Rattle.text.specs.declared.output.Output.{Output}
+use Rattle.text.specs.Output.{Puts}
+use Rattle.order.specs.Refs.{element_of}
 use Rattle.listing.specs.Walk.{walk_of}
 
 -- an element up to its contents: its tag and its value
@@ -48,20 +47,13 @@ pub record Place (b rs : List ℕ) (i d : ℕ) : Type 0 where
   pub within : i ≤ length rs
   pub step : i < length rs → d < length (element_of b (get_or rs i 0)).path
 
--- a place among references that name elements in path order
-pub record At (s : ℕ) (b rs : List ℕ) (i d : ℕ) : Type 0 where
-  pub opened : Opened b s
-  pub valid : T (all (refers s b) rs)
-  pub ascends : T (sorted rank (map (element_of b) rs))
-  pub place : Place b rs i d
-
 -- an output's place a, from which on what is left has room in 32 bits
 pub record Room (b rs : List ℕ) (i d a : ℕ) : Type 0 where
   pub fits : a + 160 * length (left b rs i d) < 4294967296
 
 -- from a place on, the trees f of what is left are written, n entries; the row and the step behind them, and the room that is left
-pub record Put (f : List Entry → Forest) (n : List Entry → ℕ) (b rs : List ℕ) (i d : ℕ) (o : List ℕ) (a : ℕ) (o' : List ℕ) (row step to : ℕ) : Type 0 where
-  pub wrote : Wrote o a (xml (f (left b rs i d))) o' to
+pub record Put (f : List Entry → Forest) (n : List Entry → ℕ) (b rs : List ℕ) (i d : ℕ) (o p : Output) (row step : ℕ) : Type 0 where
+  pub wrote : Puts o (xml (f (left b rs i d))) p
   pub rest : left b rs row step ≡ drop (n (left b rs i d)) (left b rs i d)
   pub place : Place b rs row step
-  pub room : to + 160 * length (left b rs row step) ≤ a + 160 * length (left b rs i d)
+  pub room : p.at + 160 * length (left b rs row step) ≤ o.at + 160 * length (left b rs i d)

@@ -1,11 +1,17 @@
 -- `batch::take_in`: a piece without a line end, and one with it.
-use native.Mathlib.Nat.{sub-zero}
-use borrow.Author.Rules.{rules}
+use Rattle.std.proofs.Common.{◌≡◌, ◌<◌, length, refl, arith, rules}
+use Rattle.batch.proofs.Cuts.{end-none, end-some}
 use Rattle.batch.proofs.Keeping.{taken-whole, taken-line}
+use Rattle.batch.specs.Pieces.{end_at}
 use Rattle.batch.proofs.take_in.Goals as goal
 
-pub returns-then-end-input : goal.returns-then-end-input
-returns-then-end-input c = search taken-whole
+pub returns-in_default : goal.returns-in_default
+returns-in_default c =
+    let none : length c.args.input.now ≡ end_at c.args.input.now = end-none c.args.input.now (search rules) in
+    taken-whole c.keep.ensures (omega arith) (search rules) _ _ none refl
 
 pub returns : goal.returns
-returns c = taken-line _ c.line_end-end.ensures.0 c.if-end-input.false (sub-zero _) c.end_line-wrote.ensures
+returns c =
+    let inside : c.in-Some.end < length c.args.input.now = search rules in
+    let first : c.in-Some.end ≡ end_at c.args.input.now = end-some c.args.input.now c.in-Some.end inside (search rules) (search rules) in
+    taken-line _ first (omega arith) refl c.end_line-wrote.ensures

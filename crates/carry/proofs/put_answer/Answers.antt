@@ -1,6 +1,5 @@
 -- `carry::put_answer`: the letter, then two numbers.
 use native.Mathlib.Omega.{arith}
-use borrow.Author.Rules.{rules}
 use Rattle.text.proofs.Overlays.{then, wrote_as}
 use Rattle.text.proofs.Widths.{decimal-short}
 use Rattle.carry.proofs.Answering.{answer-line}

@@ -1,5 +1,4 @@
 -- `carry::put_unread`: the bytes of the line.
-use borrow.Author.Rules.{rules}
 use Rattle.text.proofs.Overlays.{wrote_as}
 use Rattle.carry.proofs.Answering.{unread-line}
 use Rattle.carry.proofs.put_unread.Goals as goal

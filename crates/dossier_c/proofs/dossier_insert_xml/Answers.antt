@@ -3,4 +3,4 @@ use borrow.Author.Rules.{rules}
 use Rattle.dossier_c.proofs.dossier_insert_xml.Goals as goal
 
 pub returns : goal.returns
-returns c = c.insert_xml-done.ensures
+returns c = rw c.from.ensures c.insert_xml.ensures

@@ -3,4 +3,4 @@ use borrow.Author.Rules.{rules}
 use Rattle.dossier_c.proofs.dossier_view.Goals as goal
 
 pub returns : goal.returns
-returns c = c.view-done.ensures
+returns c = rw c.from.ensures c.view.ensures

@@ -1,5 +1,4 @@
 -- `dossier_migrate::migrate_partition`: tested, and sorted where it is well formed in the order of before.
-use borrow.Author.Rules.{rules}
 use Rattle.dossier_migrate.proofs.Progress.{raw-bit, formed-former, formed-bit}
 use Rattle.dossier_migrate.proofs.migrate_partition.Goals as goal
 

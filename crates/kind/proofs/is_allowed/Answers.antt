@@ -1,17 +1,11 @@
--- `kind::is_allowed`: too short, too long, or by its bytes.
-use mathlib.Core.Path.{◌∙◌}
-use Rattle.octets.proofs.Tests.{slice-bytes}
-use Rattle.kind.proofs.Rules.{too_short, too_long, by_bytes, by_kind}
+-- `kind::is_allowed`: by the kind with this number, if there is one.
+use mathlib.Core.Path.{ap, ◌∙◌}
+use Rattle.model.specs.Value.{allowed}
+use Rattle.kind.proofs.Rules.{unknown-kind}
 use Rattle.kind.proofs.is_allowed.Goals as goal
 
-pub returns-then-value-rule : goal.returns-then-value-rule
-returns-then-value-rule c = too_short _ _ c.if-value-rule.true ∙ by_kind _ (slice-bytes _ c.type_inv.value) c.rule_of-rule.ensures
+pub returns-in-Ok : goal.returns-in-Ok
+returns-in-Ok c = c.allows.ensures ∙ ap (λ n. allowed n c.args.value.now) c.in-Ok.ensures
 
-pub returns-then-rule-value : goal.returns-then-rule-value
-returns-then-rule-value c =
-    too_long _ _ c.if-value-rule.false c.if-rule-value.true ∙ by_kind _ (slice-bytes _ c.type_inv.value) c.rule_of-rule.ensures
-
-pub returns : goal.returns
-returns c =
-    by_bytes _ _ c.if-value-rule.false c.if-rule-value.false c.in_range.ensures
-    ∙ by_kind _ (slice-bytes _ c.type_inv.value) c.rule_of-rule.ensures
+pub returns-in-Err : goal.returns-in-Err
+returns-in-Err c = unknown-kind c.args.kind c.args.value.now c.in-Err.ensures

@@ -1,44 +1,26 @@
 -- `listing::put_walk`: what is left of the walk, laid over what was written, gives the whole.
-use borrow.Author.Rules.{rules}
+use mathlib.Core.Path.{◌∙◌}
 use native.Mathlib.Omega.{arith}
-use Prim.Native.Nat.{◌-◌}
-use lib.ListN.{length}
 use Rattle.model.specs.Path.{steps_of}
-use Rattle.listing.proofs.Walking.{here-refers, here-used, here-new, Walking, walk_start, walk-next, walk_end, walk-room, walk-size}
+use Rattle.listing.proofs.Walking.{here-used, here-new, walk-next, walk_end, walk-room}
 use Rattle.listing.proofs.put_walk.Goals as goal
 
-pub loop-i-init : goal.loop-i-init
-loop-i-init c = walk_start (steps_of c.args.path.now) c.requires.refers _ _
+pub put_element-requires-clause-at_bound : goal.put_element-requires-clause-at_bound
+put_element-requires-clause-at_bound c =
+    let steps = steps_of c.args.seen.now.path.now in
+    let refers = c.args.seen.now.refers in
+    let room = walk-room steps refers c.loop-i.invariant.1 in
+    (omega (arith, room, c.requires, c.loop-i-test.true, c.args.seen.now.few), here-new steps refers _ c.loop-i-test.true c.slot.ensures c.shared_above.ensures)
 
-pub shared_above-from-requires : goal.shared_above-from-requires
-shared_above-from-requires c =
-    record {
-      opened = (c.requires.opened.0, c.loop-i-test.true);
-      refers = c.requires.refers;
-    }
-
-pub bounds-refs-i : goal.bounds-refs-i
-bounds-refs-i c = c.loop-i-test.true
-
-pub slot_of-slot-requires : goal.slot_of-slot-requires
-slot_of-slot-requires c = (c.requires.opened.0, here-refers (steps_of c.args.path.now) c.requires.refers _ c.loop-i-test.true)
-
-pub put_element-to-requires : goal.put_element-to-requires
-put_element-to-requires c =
-    let steps = steps_of c.args.path.now in
-    let room = walk-room steps c.requires.refers c.loop-i.invariant in
-    record {
-      at_bound = (omega (arith, room, c.requires.opened.1, c.requires.opened.2), here-new steps c.requires.refers _ c.loop-i-test.true c.slot_of-slot.ensures c.shared_above-from.ensures);
-      used = here-used steps c.requires.refers _ c.loop-i-test.true c.slot_of-slot.ensures c.requires.opened.0;
-    }
+pub put_element-requires-clause-used : goal.put_element-requires-clause-used
+put_element-requires-clause-used c = here-used (steps_of c.args.seen.now.path.now) c.args.seen.now.refers _ c.loop-i-test.true c.slot.ensures c.args.seen.now.reader.opened c.slot.result.slot.whole
 
 pub loop-i-preserved : goal.loop-i-preserved
-loop-i-preserved c =
-    let steps = steps_of c.args.path.now in
-    walk-next steps c.requires.refers c.loop-i.invariant c.loop-i-test.true c.slot_of-slot.ensures c.shared_above-from.ensures c.put_element-to.ensures
-
-pub shape_of-out : goal.shape_of-out
-shape_of-out c = walk-size (steps_of c.args.path.now) c.requires.refers c.loop-i.invariant
+loop-i-preserved c = (
+  c.put_element.ensures.0 ∙ c.loop-i.invariant.0,
+  walk-next (steps_of c.args.seen.now.path.now) c.args.seen.now.refers c.loop-i.invariant.1 c.loop-i-test.true c.slot.ensures c.shared_above.ensures
+      c.put_element.ensures.1,
+)
 
 pub returns : goal.returns
-returns c = walk_end (steps_of c.args.path.now) c.requires.refers c.loop-i.invariant c.loop-i-test.false
+returns c = (c.loop-i.invariant.0, walk_end (steps_of c.args.seen.now.path.now) c.args.seen.now.refers c.loop-i.invariant.1 c.loop-i-test.false)

@@ -22,7 +22,7 @@ order_labels-a-requires t c =
     let less = first-less labels (at-least-two _ c.if-width-eq0.false c.if-width-eq1.false) in (
       subst (λ (n : ℕ). length (take (half - 0) labels) < n) c.decreases less,
       (
-        (c.requires.opened.0, rising-take (half - 0) labels c.requires.opened.1, omega (arith, less, c.requires.opened.2)),
+        (rising-take (half - 0) labels c.requires.labels.0, omega (arith, less, c.requires.labels.1)),
         (omega (arith, less, c.requires.labels_in_bounds.1), omega (arith, less, c.requires.labels_in_bounds.0)),
       ),
     )
@@ -37,24 +37,22 @@ order_labels-b-requires t c =
     let other = room-left labels one.ensures.upper_bound c.requires.labels_in_bounds.0 one.auto.spare in (
       subst (λ (n : ℕ). length (take (length labels - half) (drop half labels)) < n) c.decreases less,
       (
-        (c.requires.opened.0, rising-take (length labels - half) (drop half labels) (rising-drop half labels c.requires.opened.1), fewer less c.requires.opened.2),
+        (rising-take (length labels - half) (drop half labels) (rising-drop half labels c.requires.labels.0), fewer less c.requires.labels.1),
         (second-room labels one.new.refs one.result room, second-room labels one.new.spare one.result other),
       ),
     )
 
-pub merge-requires-clause-opened : goal.merge-requires-clause-opened
-merge-requires-clause-opened t c =
+pub merge-requires-clause-runs : goal.merge-requires-clause-runs
+merge-requires-clause-runs t c =
     let labels = c.args.labels.now in
     let half = length labels / 2 in
     let one = c.order_labels-a in
     let two = c.order_labels-b in
     let high = one.new.refs in
     let room = room-left labels one.ensures.upper_bound c.requires.labels_in_bounds.1 one.auto.refs in
-    let fits = second_fits labels high one.result two.ensures.upper_bound room two.auto.refs in (
-      c.requires.opened.0,
-      two_runs (steps_of c.args.path.now) labels half (half-below labels) c.requires.opened.1 high two.new.refs one.result two.result one.ensures.refers
-          two.ensures.refers (starts-within one.result _ room) fits (length high - one.result),
-    )
+    let fits = second_fits labels high one.result two.ensures.upper_bound room two.auto.refs in
+    two_runs (steps_of c.args.path.now) labels half (half-below labels) c.requires.labels.0 high two.new.refs one.result two.result one.ensures.refers
+    two.ensures.refers (starts-within one.result _ room) fits (length high - one.result)
 
 pub returns-clause-refers : goal.returns-clause-refers
 returns-clause-refers t c =
@@ -65,5 +63,5 @@ returns-clause-refers t c =
     let high = one.new.refs in
     let room = room-left labels one.ensures.upper_bound c.requires.labels_in_bounds.1 one.auto.refs in
     let fits = second_fits labels high one.result two.ensures.upper_bound room two.auto.refs in
-    runs-joined (steps_of c.args.path.now) labels half (half-below labels) c.requires.opened.1 high two.new.refs one.result two.result one.ensures.refers
+    runs-joined (steps_of c.args.path.now) labels half (half-below labels) c.requires.labels.0 high two.new.refs one.result two.result one.ensures.refers
     two.ensures.refers (starts-within one.result _ room) fits (length high - one.result) c.merge.new.refs c.merge.ensures

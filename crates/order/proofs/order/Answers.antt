@@ -1,20 +1,15 @@
 -- `order::order`: the occupied labels, and their elements in order.
-use native.Mathlib.Omega.{arith}
 use Rattle.model.specs.Path.{steps_of}
-use Rattle.order.proofs.Occupying.{found-rising, found-few, found_all}
+use Rattle.order.proofs.Naming.{first-refs}
+use Rattle.order.proofs.Occupying.{found-rising, found_all}
 use Rattle.order.proofs.order.Goals as goal
 
-pub order_labels-requires : goal.order_labels-requires
-order_labels-requires c =
-    let few = found-few _ c.args.store.now (steps_of c.args.path.now) c.occupied-n.new.found c.occupied-n.ensures.found_after c.occupied-n.ensures.upper_bound in record {
-      opened = (c.requires.0, found-rising _ c.args.store.now (steps_of c.args.path.now) c.occupied-n.new.found c.occupied-n.ensures.found_after c.occupied-n.ensures.upper_bound, few);
-      labels_in_bounds = ((omega (arith, few, c.requires.1), omega (arith, few, c.requires.2)));
-    }
+pub order_labels-n-requires-clause-labels : goal.order_labels-n-requires-clause-labels
+order_labels-n-requires-clause-labels c = (found-rising _ _ _ c.occupied-labels.ensures.found, c.occupied-labels.ensures.upper_bound)
 
-pub returns : goal.returns
-returns c =
+pub invariant_of-result : goal.invariant_of-result
+invariant_of-result c =
     record {
-      refers = found_all _ c.args.store.now (steps_of c.args.path.now) c.occupied-n.new.found c.occupied-n.ensures.found_after c.occupied-n.ensures.upper_bound c.order_labels.ensures.refers;
-      upper_bound = (omega
-          (arith, c.order_labels.ensures.upper_bound, found-few _ c.args.store.now (steps_of c.args.path.now) c.occupied-n.new.found c.occupied-n.ensures.found_after c.occupied-n.ensures.upper_bound));
+      few = first-refs c.order_labels-n.new.refs c.order_labels-n.ensures.upper_bound c.occupied-labels.ensures.upper_bound;
+      refers = found_all _ _ (steps_of c.args.path.now) c.occupied-labels.ensures.found c.order_labels-n.ensures.refers;
     }

@@ -1,13 +1,14 @@
 -- `order::run_of`: the whole partition at the root, else the path's place.
-use Rattle.order.proofs.Collecting.{part-size, root-place, root-run}
+use native.Mathlib.Omega.{arith}
+use Rattle.model.specs.Path.{steps_of}
+use Rattle.order.proofs.Collecting.{root-place, root-run, run-small}
 use Rattle.order.proofs.run_of.Goals as goal
 
-pub count-requires : goal.count-requires
-count-requires c = part-size c.requires
+pub returns-then-path-lt3-clause-start : goal.returns-then-path-lt3-clause-start
+returns-then-path-lt3-clause-start c = root-place _ c.args.path.now c.if-path-lt3.true
 
-pub returns-then-path-lt3 : goal.returns-then-path-lt3
-returns-then-path-lt3 c =
-    record {
-      at_value = root-place _ c.args.path.now c.if-path-lt3.true;
-      count_value = root-run c.requires c.args.path.now c.if-path-lt3.true c.count.ensures;
-    }
+pub returns-then-path-lt3-clause-end : goal.returns-then-path-lt3-clause-end
+returns-then-path-lt3-clause-end c = omega (arith, root-run c.requires c.args.path.now c.if-path-lt3.true c.count.ensures.0)
+
+pub overflow_add-result : goal.overflow_add-result
+overflow_add-result c = omega (arith, run-small c.requires (steps_of c.args.path.now) c.place-at.ensures c.run_length.ensures)

@@ -21,18 +21,18 @@ pub overflow_add-end : goal.overflow_add-end
 overflow_add-end c = omega (arith, room-sizes c.requires.room)
 
 pub slice_bounds-shift_up-count : goal.slice_bounds-shift_up-count
-slice_bounds-shift_up-count c = omega (arith, room-sizes c.requires.room, c.index.ensures.0)
+slice_bounds-shift_up-count c = omega (arith, room-sizes c.requires.room, c.from.ensures)
 
 pub slice_bounds-shift_up-start : goal.slice_bounds-shift_up-start
-slice_bounds-shift_up-start c = omega (arith, room-sizes c.requires.room, c.index.ensures.0)
+slice_bounds-shift_up-start c = omega (arith, room-sizes c.requires.room, c.from.ensures)
 
 pub slice_bounds-shift_up-end : goal.slice_bounds-shift_up-end
-slice_bounds-shift_up-end c = omega (arith, room-sizes c.requires.room, c.index.ensures.0)
+slice_bounds-shift_up-end c = omega (arith, room-sizes c.requires.room, c.from.ensures)
 
 pub shift_up-requires : goal.shift_up-requires
 shift_up-requires c =
     let sizes = room-sizes c.requires.room in
-    omega (arith, sizes, c.index.ensures.0, mid_len (4 + 40 * c.args.at) (44 + 40 * c.index.result) c.args.part.now (omega (arith, sizes, c.index.ensures.0)))
+    omega (arith, sizes, c.from.ensures, mid_len (4 + 40 * c.args.at) (44 + 40 * c.from.result) c.args.part.now (omega (arith, sizes, c.from.ensures)))
 
 pub slice_bounds-write-end : goal.slice_bounds-write-end
 slice_bounds-write-end c = omega (arith, room-sizes c.requires.room, c.part-1.given)
@@ -46,5 +46,5 @@ shape_of-part c = simp length-set (omega (arith, c.part-1.given, c.part-2-1.give
 pub returns : goal.returns
 returns c =
     room-put (steps_of c.args.path.now) _ c.requires.room
-    (put_in c.requires.room.formed _ c.args.at (room_within c.requires.room) c.requires.room.free (omega (arith, c.index.ensures.0)) refl
+    (put_in c.requires.room.formed _ c.args.at (room_within c.requires.room) c.requires.room.free (omega (arith, c.from.ensures)) refl
     c.shift_up.ensures c.write.ensures)

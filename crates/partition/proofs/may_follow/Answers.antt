@@ -5,13 +5,13 @@ use Rattle.partition.proofs.Checking.{not_after, free-parent, shared-parent, sha
 use Rattle.partition.proofs.may_follow.Goals as goal
 
 pub returns-then-not-m : goal.returns-then-not-m
-returns-then-not-m c = not_after _ _ _ _ c.compare_by-m.ensures (not-true _ c.if-not-m.true)
+returns-then-not-m g c = not_after _ _ _ _ c.compare_by-m.ensures (not-true _ c.if-not-m.true)
 
 pub returns-then-not-parent_ends_in : goal.returns-then-not-parent_ends_in
-returns-then-not-parent_ends_in c = free-parent _ _ _ _ c.compare_by-m.ensures (not-false _ c.if-not-m.false) c.parent_ends_in.ensures c.if-not-parent_ends_in.true
+returns-then-not-parent_ends_in g c = free-parent _ _ _ _ c.compare_by-m.ensures (not-false _ c.if-not-m.false) c.parent_ends_in.ensures c.if-not-parent_ends_in.true
 
 pub overflow_add-result : goal.overflow_add-result
-overflow_add-result c = omega (arith, shared-small _ _ c.compare_by-m.ensures c.requires.0.steps)
+overflow_add-result g c = omega (arith, shared-small _ _ c.compare_by-m.ensures c.args.a.few)
 
 pub returns : goal.returns
-returns c = shared-parent _ _ _ _ c.compare_by-m.ensures (not-false _ c.if-not-m.false) c.parent_ends_in.ensures c.if-not-parent_ends_in.false c.depth.ensures
+returns g c = shared-parent _ _ _ _ c.compare_by-m.ensures (not-false _ c.if-not-m.false) c.parent_ends_in.ensures c.if-not-parent_ends_in.false c.depth.ensures

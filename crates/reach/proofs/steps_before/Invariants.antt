@@ -1,6 +1,5 @@
 -- `reach::steps_before`: none of the steps before step i bears the label.
-use mathlib.Core.Path.{◌≡◌}
-use Prim.Native.Nat.{◌-◌, ◌/◌}
+use Prim.Native.Nat.{◌/◌}
 use lib.ListN.{length}
 use Rattle.model.specs.Path.{steps_of}
 use Rattle.path.specs.Steps.{lent_step}
@@ -9,7 +8,4 @@ use Rattle.reach.proofs.Before.{Passed}
 use Rattle.reach.proofs.steps_before.Given as goal
 
 abbrev pub invariant-loop-i : goal.invariant-loop-i
-invariant-loop-i l = Passed (lent_step l.path) l.label (steps_before l.label (steps_of l.path)) l.n l.i × (l.n ≡ length l.path / 3)
-
-abbrev pub decreases-loop-i : goal.decreases-loop-i
-decreases-loop-i l = l.n - l.i
+invariant-loop-i l = Passed (lent_step l.path) l.label (steps_before l.label (steps_of l.path)) (length l.path / 3) l.i

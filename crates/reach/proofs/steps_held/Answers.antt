@@ -3,4 +3,4 @@ use Rattle.reach.proofs.Shared.{held-seen}
 use Rattle.reach.proofs.steps_held.Goals as goal
 
 pub returns : goal.returns
-returns c = held-seen c.requires.0 _ c.requires.1 c.shared_before.ensures c.shared_at.ensures c.most.ensures
+returns c = held-seen c.args.part.in_order _ c.requires c.shared_before.ensures c.shared_at.ensures c.max.ensures

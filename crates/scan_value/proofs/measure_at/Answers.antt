@@ -1,12 +1,13 @@
 -- `measure_at`: a number, and a tag behind it.
+use mathlib.Core.List.{[]}
 use Rattle.scan_value.proofs.Valuing.{measure-none, measure-more, measure-found}
 use Rattle.scan_value.proofs.measure_at.Goals as goal
 
-pub returns-in_default : goal.returns-in_default
-returns-in_default c = search measure-none
+pub returns-in_err-m : goal.returns-in_err-m
+returns-in_err-m c = rw c.from_residual.ensures (measure-none c.args.text.now c.args.at c.in_err-m.ensures [])
 
 pub returns-then-not-holds : goal.returns-then-not-holds
-returns-then-not-holds c = search measure-more
+returns-then-not-holds c = search (measure-more, c.in_ok-m.ensures)
 
 pub returns : goal.returns
-returns c = search measure-found
+returns c = search (measure-found, c.in_ok-m.ensures)

@@ -6,8 +6,8 @@ use Rattle.scan_value.proofs.text_at.Goals as goal
 pub returns-then-n-ge16 : goal.returns-then-n-ge16
 returns-then-n-ge16 c = search (rules, text-over)
 
-pub returns-in_default : goal.returns-in_default
-returns-in_default c = search text-stop
+pub returns-in_err-x : goal.returns-in_err-x
+returns-in_err-x c = rw c.from_residual.ensures (search (rules, text-stop, c.in_err-x.ensures))
 
 pub returns-then-n-eq0 : goal.returns-then-n-eq0
 returns-then-n-eq0 c = search text-empty

@@ -13,7 +13,7 @@ returns-then-not-content_valid c = no-content _ _ c.path_valid.ensures c.if-not-
 pub rest_zero-requires : goal.rest_zero-requires
 rest_zero-requires c =
     let path = path-good _ _ c.path_valid.ensures c.if-not-path_valid.false in
-    (c.requires, short-value _ _ path refl c.content_valid.ensures c.if-not-content_valid.false c.requires)
+    short-value _ _ path refl c.content_valid.ensures c.if-not-content_valid.false c.args.slot.whole
 
 pub returns : goal.returns
 returns c = by-rest _ _ c.path_valid.ensures c.if-not-path_valid.false c.content_valid.ensures c.if-not-content_valid.false c.rest_zero.ensures

@@ -1,12 +1,6 @@
 -- `slot::write_labels`: the labels of the first i steps are written.
-use mathlib.Core.Path.{◌≡◌}
-use Prim.Native.Nat.{◌-◌, ◌/◌}
-use lib.ListN.{length}
 use Rattle.slot_write.proofs.Filling.{labels, Laid}
 use Rattle.slot_write.proofs.write_labels.Given as goal
 
 abbrev pub invariant-loop-i : goal.invariant-loop-i
-invariant-loop-i l = Laid 6 labels l.path l.labels l.i × (l.n ≡ length l.path / 3)
-
-abbrev pub decreases-loop-i : goal.decreases-loop-i
-decreases-loop-i l = l.n - l.i
+invariant-loop-i l = Laid 6 labels l.path l.labels l.i

@@ -4,6 +4,3 @@ use Rattle.sorting.proofs.back_from.Given as goal
 
 abbrev pub invariant-loop-j : goal.invariant-loop-j
 invariant-loop-j l = Backing l.part l.i l.from l.j
-
-abbrev pub decreases-loop-j : goal.decreases-loop-j
-decreases-loop-j l = l.j

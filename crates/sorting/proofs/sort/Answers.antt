@@ -3,8 +3,8 @@ use native.Mathlib.Omega.{arith}
 use Rattle.sorting.proofs.Whole.{facts, turned-start, turned-behind, turned-near, turned-next, turned-end, turned-size, from-none}
 use Rattle.sorting.proofs.sort.Goals as goal
 
-pub count-c-requires : goal.count-c-requires
-count-c-requires c = (facts c.requires).size
+pub invariant_of-count : goal.invariant_of-count
+invariant_of-count c = record { whole = (facts c.requires).size }
 
 pub returns-then-c-eq0 : goal.returns-then-c-eq0
 returns-then-c-eq0 c = from-none c.requires c.count-c.ensures c.if-c-eq0.true

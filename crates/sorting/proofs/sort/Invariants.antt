@@ -4,6 +4,3 @@ use Rattle.sorting.proofs.sort.Given as goal
 
 abbrev pub invariant-loop-i : goal.invariant-loop-i
 invariant-loop-i l = Turned l.initial.part l.part l.i l.near
-
-abbrev pub decreases-loop-i : goal.decreases-loop-i
-decreases-loop-i l = l.i

@@ -7,4 +7,4 @@ pub slice_bounds-result-end : goal.slice_bounds-result-end
 slice_bounds-result-end c = omega (arith, dominated-lt _ _ c.requires.1)
 
 pub returns : goal.returns
-returns c = part-lent _ _ _ c.requires.0 c.requires.1 c.index-at.ensures
+returns c = part-lent _ _ _ c.requires.0 c.requires.1 c.from-at.ensures

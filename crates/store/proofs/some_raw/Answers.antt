@@ -1,16 +1,12 @@
 -- `store::some_raw`: over the labels up to the subject's.
-use Rattle.model.proofs.Walks.{any_found, any_next, any-end}
-use Rattle.store.proofs.Parts.{raw-start}
+use mathlib.Core.Path.{refl, ◌∙◌}
+use Rattle.std.proofs.Common.{arith, rules, tests}
+use Rattle.std.proofs.lemmas.Iterator.{YieldsList-from_range}
+use Rattle.std.proofs.lemmas.Iterator.Search.{any_from_yields_List}
+use Rattle.store.proofs.Parts.{raw_at, raw-start, any-start}
 use Rattle.store.proofs.some_raw.Goals as goal
 
-pub loop-n-init : goal.loop-n-init
-loop-n-init c = raw-start _ _ c.labels_end-end.ensures
-
-pub returns-then-is_raw : goal.returns-then-is_raw
-returns-then-is_raw c = any_found _ c.loop-n.invariant c.loop-n-test.true c.is_raw.ensures c.if-is_raw.true
-
-pub loop-n-preserved : goal.loop-n-preserved
-loop-n-preserved c = any_next _ c.loop-n.invariant c.loop-n-test.true c.is_raw.ensures c.if-is_raw.false
-
 pub returns : goal.returns
-returns c = any-end _ c.loop-n.invariant c.loop-n-test.false
+returns c =
+    any_from_yields_List (raw_at c.args.subject c.args.store.now) _ _ _ c.any.ensures.ran (YieldsList-from_range 0 c.labels_end.result c.labels_end.result refl (omega arith)) (λ x b q k. search (rules, tests))
+    ∙ any-start _ (raw-start _ c.args.store.now c.labels_end.ensures)

@@ -1,5 +1,4 @@
 -- `table::open`: the length, then the subject.
-use borrow.Author.Rules.{rules}
 use Rattle.table.proofs.Walking.{open-one, open-two, open-both}
 use Rattle.table.proofs.open.Goals as goal
 

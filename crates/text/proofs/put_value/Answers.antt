@@ -7,11 +7,11 @@ use Rattle.text.proofs.Overlays.{wrote_as}
 use Rattle.text.proofs.put_value.Goals as goal
 
 pub measure_of-requires : goal.measure_of-requires
-measure_of-requires c = measure-length _ c.requires.t c.wide.ensures c.rule_of-rule.ensures c.if-rule.true
+measure_of-requires c = measure-length _ _ c.requires.t c.rule-rule.ensures c.if-rule.true
 
 pub returns-then-rule : goal.returns-then-rule
 returns-then-rule c =
-    let shows = as_number _ c.requires.t c.wide.ensures c.rule_of-rule.ensures c.if-rule.true c.measure_of.ensures in
+    let shows = as_number _ _ c.requires.t c.rule-rule.ensures c.if-rule.true c.measure_of.ensures in
     wrote_as shows c.put_signed.ensures
 
 pub returns-then-value-eq0 : goal.returns-then-value-eq0
@@ -22,5 +22,5 @@ put_bytes-requires c = omega (arith, allowed-length)
 
 pub returns : goal.returns
 returns c =
-    let shows = as-text _ c.requires.t c.wide.ensures c.rule_of-rule.ensures c.if-rule.false c.if-value-eq0.false in
+    let shows = as-text _ _ c.requires.t c.rule-rule.ensures c.if-rule.false c.if-value-eq0.false in
     wrote_as shows c.put_bytes.ensures

@@ -12,7 +12,7 @@ abbrev pub decreases-tree_at : goal.decreases-tree_at
 decreases-tree_at l = 2 * (length l.text.now - l.at)
 
 abbrev pub invariant-inside_at-loop-keys : goal.invariant-inside_at-loop-keys
-invariant-inside_at-loop-keys l = Reading l.text l.at l.depth l.subject (Marked l.initial.heads l.initial.places l.k l.heads l.places) l.keys l.n l.p
+invariant-inside_at-loop-keys l = Reading l.text l.at l.depth l.subject (Marked l.initial.marks l.k l.marks) l.keys l.n l.p
 
 abbrev pub decreases-inside_at-loop-keys : goal.decreases-inside_at-loop-keys
 decreases-inside_at-loop-keys l = length l.text - l.p.next

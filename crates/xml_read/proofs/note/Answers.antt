@@ -1,10 +1,10 @@
--- `note`: behind 32 nothing is kept; before it is.
-use borrow.Author.Rules.{rules}
+-- `note`: before 32 it is kept, behind them nothing is.
+use native.Mathlib.Omega.{arith}
 use Rattle.xml_read.proofs.Marking.{marked-full, marked-one}
 use Rattle.xml_read.proofs.note.Goals as goal
 
-pub returns-then-k-ge32 : goal.returns-then-k-ge32
-returns-then-k-ge32 c = search marked-full
+pub returns-then-k-lt32 : goal.returns-then-k-lt32
+returns-then-k-lt32 c = marked-one _ _ _ (omega arith) (omega arith)
 
-pub returns : goal.returns
-returns c = marked-one _ _ _ _ (search rules) c.requires.0 c.requires.1
+pub returns-else-k-lt32 : goal.returns-else-k-lt32
+returns-else-k-lt32 c = marked-full _ _ _ (omega arith)

@@ -1,35 +1,26 @@
 -- `calls::bring`: by the value.
-use borrow.Author.Rules.{rules}
-use mathlib.Core.Path.{ap}
-use mathlib.Core.List.{List, ◌++◌}
-use Prim.Native.Nat.{ℕ, ◌-◌}
-use lib.ListN.{length, take, drop}
-use native.Mathlib.Omega.{arith}
-use Rattle.carry.proofs.Doings.{group-brought, measure-brought, text-brought, text-part, text-short}
+use mathlib.Core.Path.{refl}
+use Rattle.std.proofs.Common.{rules}
+use Rattle.carry.proofs.Doings.{text-brought}
 use Rattle.carry.proofs.calls.bring.Goals as goal
 
-pub put_word-requires : goal.put_word-requires
-put_word-requires c = c.requires.1
-
 pub returns-in-Group : goal.returns-in-Group
-returns-in-Group c =
-    record {
-      line_value = group-brought c.args.line.now c.in-Group.is c.args.bytes.now;
-      size_in_bounds = omega arith;
-    }
+returns-in-Group g c =
+    rw c.in-Group.is (record { store = _; value = _; left = _; met = c.act.ensures; store_is = refl; value_is = refl; left_is = refl })
 
 pub returns-in-Measure : goal.returns-in-Measure
-returns-in-Measure c =
-    record {
-      line_value = measure-brought c.args.line.now c.in-Measure.is c.put_word.new.bytes c.put_word.ensures;
-      size_in_bounds = c.requires.1;
-    }
+returns-in-Measure g c =
+    rw c.in-Measure.is
+    (record { store = _; value = _; left = _; met = c.act-in-Measure.ensures; store_is = refl; value_is = search rules; left_is = refl })
 
 pub returns-in-Text : goal.returns-in-Text
-returns-in-Text c =
-    let t = take (length c.args.line.now - c.text_start-at.result) (drop c.text_start-at.result c.args.line.now) in
-    record {
-      line_value = text-brought c.args.line.now c.in-Text.is c.text_start-at.ensures c.args.bytes.now (text-part c.args.line.now c.text_start-at.result)
-          (ap (λ (s : List ℕ). s ++ drop (length t) c.args.bytes.now) c.copy_from_slice.ensures.after);
-      size_in_bounds = (text-short c.args.line.now c.text_start-at.result _ c.requires.0);
-    }
+returns-in-Text g c =
+    rw c.in-Text.is (record {
+      store = _;
+      value = _;
+      left = _;
+      met = c.act-in-Text.ensures;
+      store_is = refl;
+      value_is = text-brought c.args.line.now c.in-Text.n c.saturating_sub-at.ensures;
+      left_is = refl;
+    })

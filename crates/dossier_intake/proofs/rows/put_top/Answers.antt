@@ -8,4 +8,4 @@ use Rattle.dossier_intake.proofs.Placing.{top-put}
 use Rattle.dossier_intake.proofs.rows.put_top.Goals as goal
 
 pub returns : goal.returns
-returns c = top-put _ _ _ _ c.requires.0 c.requires.1 (search rules) (ap (λ (l : List ℕ). l ++ drop (length c.args.path.now) c.args.buffer.now) c.copy_from_slice.ensures.after) c.put_step.ensures
+returns c = rw (← c.from.ensures) (top-put _ _ _ _ c.requires.0 c.requires.1 (search rules) (ap (λ (l : List ℕ). l ++ drop (length c.args.path.now) c.args.buffer.now) c.copy_from_slice.ensures.after) c.put_step.ensures)

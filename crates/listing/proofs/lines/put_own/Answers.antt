@@ -1,37 +1,29 @@
 -- `listing::put_own`: the line of the slot's own path.
+use mathlib.Core.Path.{refl}
 use native.Mathlib.Omega.{arith}
-use borrow.Author.Rules.{rules}
-use Rattle.text.proofs.Overlays.{wrote_as}
+use mathlib.Core.Path.{◌∙◌}
+use Rattle.kind.proofs.Rules.{known-kind}
+use Rattle.text.proofs.Overlays.{puts_as}
 use Rattle.listing.proofs.Drawing.{used-some, used-steps, used-value, used-content, own_line}
 use Rattle.listing.proofs.lines.put_own.Goals as goal
 
 pub overflow_sub-depth : goal.overflow_sub-depth
 overflow_sub-depth c = omega (arith, used-some)
 
-pub step_name-name-requires : goal.step_name-name-requires
-step_name-name-requires c = (c.requires.used.size, omega (arith, c.depth-depth.ensures.0, used-some c.requires.used, used-steps c.requires.used))
+pub step-last-requires : goal.step-last-requires
+step-last-requires c = omega (arith, c.depth-depth.ensures.0, used-some c.requires.used, used-steps c.requires.used)
 
-pub overflow_sub-depth-2 : goal.overflow_sub-depth-2
-overflow_sub-depth-2 c = omega (arith, used-some)
+pub numbered-kind-requires : goal.numbered-kind-requires
+numbered-kind-requires c = known-kind _ _ (used-content c.requires.used c.kind.ensures refl)
 
-pub step_label-requires : goal.step_label-requires
-step_label-requires c = (c.requires.used.size, omega (arith, c.depth-depth.ensures.0, used-some c.requires.used, used-steps c.requires.used))
+pub value-value-requires : goal.value-value-requires
+value-value-requires c = omega (arith, used-value)
 
-pub value_of-value-requires : goal.value_of-value-requires
-value_of-value-requires c = omega (arith, used-value)
-
-pub narrow-requires : goal.narrow-requires
-narrow-requires c = omega (arith, used-steps)
-
-pub put_live-requires : goal.put_live-requires
-put_live-requires c =
-    record {
-      at_bound = c.requires.at_bound;
-      t = used-content c.requires.used c.kind_of-kind.ensures c.value_of-value.ensures;
-    }
+pub live-requires-clause-t : goal.live-requires-clause-t
+live-requires-clause-t c = used-content c.requires.used (c.numbered-kind.ensures ∙ c.kind.ensures) c.value-value.ensures
 
 pub returns : goal.returns
 returns c =
     let some = used-some c.requires.used in
-    let shows = own_line _ some c.depth-depth.ensures c.narrow.ensures c.step_name-name.ensures c.step_label.ensures c.wide-label.ensures c.kind_of-kind.ensures c.value_of-value.ensures in
-    wrote_as shows c.put_live.ensures
+    let shows = own_line _ some c.depth-depth.ensures refl c.step-last.ensures (c.numbered-kind.ensures ∙ c.kind.ensures) c.value-value.ensures in
+    puts_as shows c.live.ensures

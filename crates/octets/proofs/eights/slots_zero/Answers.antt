@@ -1,19 +1,17 @@
--- `octets::eights::slots_zero`: eight bytes joined and tested a step.
-use native.Mathlib.Omega.{arith}
-use Rattle.octets.proofs.Joining.{zero-start, zero-used, zero-unused, zero-end}
+-- `octets::eights::slots_zero`: eight bytes joined and or-ed a step.
+use mathlib.Core.Path.{ap, ◌∙◌}
+use Rattle.octets.proofs.Joining.{left-start, left-more, left-end}
 use Rattle.octets.proofs.eights.slots_zero.Goals as goal
-use Rattle.octets.proofs.eights.slots_zero.Goals.{then-joined-ne0, else-joined-ne0}
 
-pub loop-at-init : goal.loop-at-init
-loop-at-init c = zero-start c.args.s.now
+pub loop-eight-init : goal.loop-eight-init
+loop-eight-init c =
+    let e = c.into_iter-eight-iterator.ensures.into_iter_gives in
+    left-start c.args.s.now c.requires (ap (λ i. i.size) e ∙ c.chunks_exact-eight-items.ensures.size) (ap (λ i. i.rest.now) e ∙ c.chunks_exact-eight-items.ensures.rest)
 
-pub loop-at-preserved : goal.loop-at-preserved
-loop-at-preserved c =
-    let inv = c.loop-at.invariant in
-    elim c.if-joined-ne0.branch [
-      | then-joined-ne0 w ↦ zero-used inv (omega (arith, c.loop-at-test.true)) c.eight_at-joined.ensures w.used-is
-      | else-joined-ne0 w ↦ zero-unused inv (omega (arith, c.loop-at-test.true)) c.eight_at-joined.ensures w.if-joined-ne0.false w.used-is
-    ]
+pub loop-eight-preserved : goal.loop-eight-preserved
+loop-eight-preserved c =
+    let steps = c.in-Some.ensures.steps in
+    left-more c.loop-eight.invariant c.in-Some.eight.now c.next.new.self.rest.now steps.0 steps.1.0 steps.1.1 c.joined-used.ensures
 
 pub returns : goal.returns
-returns c = zero-end c.loop-at.invariant c.requires (omega (arith, c.loop-at-test.false))
+returns c = left-end c.loop-eight.invariant c.in-None.ensures.steps.1.0

@@ -1,11 +1,6 @@
--- `octets::eights::slots_zero`: eight bytes joined and tested a step.
-use Prim.Native.Nat.{◌-◌}
-use lib.ListN.{length}
-use Rattle.octets.proofs.Joining.{ZeroTo}
+-- `octets::eights::slots_zero`: eight bytes joined and or-ed a step.
+use Rattle.octets.proofs.Joining.{ZeroLeft}
 use Rattle.octets.proofs.eights.slots_zero.Given as goal
 
-abbrev pub invariant-loop-at : goal.invariant-loop-at
-invariant-loop-at l = ZeroTo l.s l.used l.at
-
-abbrev pub decreases-loop-at : goal.decreases-loop-at
-decreases-loop-at l = length l.s - l.at
+abbrev pub invariant-loop-eight : goal.invariant-loop-eight
+invariant-loop-eight l = ZeroLeft l.fn.s l.used l.eight-iterator.size l.eight-iterator.rest.now

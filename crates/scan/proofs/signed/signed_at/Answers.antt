@@ -6,11 +6,11 @@ use Rattle.scan.proofs.signed.signed_at.Goals as goal
 pub returns-then-not-holds : goal.returns-then-not-holds
 returns-then-not-holds c = search signed-plain
 
-pub returns-in_default : goal.returns-in_default
-returns-in_default c = search signed-none
+pub returns-in_err-n : goal.returns-in_err-n
+returns-in_err-n c = rw c.from_residual.ensures (search (signed-none, c.in_err-n.ensures))
 
 pub returns-then-n-eq0 : goal.returns-then-n-eq0
-returns-then-n-eq0 c = search (rules, signed-zero)
+returns-then-n-eq0 c = search (rules, signed-zero, c.in_ok-n.ensures)
 
 pub returns : goal.returns
-returns c = search signed-found
+returns c = search (signed-found, c.in_ok-n.ensures)

@@ -1,12 +1,16 @@
--- `values::is_printable`: the bytes passed are printable.
-use Rattle.script.proofs.Showings.{clean-low, clean-high, clean-next}
+-- `values::is_printable`: the library's test of every byte.
+use mathlib.Core.Path.{◌∙◌}
+use lib.ListN.{drop}
+use Rattle.std.proofs.Common.{rules, tests}
+use Rattle.std.proofs.lemmas.Iterator.{YieldsList-from_slice}
+use Rattle.std.proofs.lemmas.Iterator.Search.{all_from_yields_List}
+use Rattle.model.specs.Value.{is_printable}
+use Rattle.script.proofs.Showings.{all-printable, line-rest}
 use Rattle.script.proofs.values.is_printable.Goals as goal
 
-pub returns-then-line-i-lt32 : goal.returns-then-line-i-lt32
-returns-then-line-i-lt32 c = search clean-low
-
-pub returns-then-line-i-gt126 : goal.returns-then-line-i-gt126
-returns-then-line-i-gt126 c = search clean-high
-
-pub loop-i-preserved : goal.loop-i-preserved
-loop-i-preserved c = search clean-next
+pub returns : goal.returns
+unfolding is_printable
+returns c =
+    let rest = drop c.args.at c.args.line.now in
+    let yields = YieldsList-from_slice rest (c.iter.ensures.rest ∙ line-rest c.args.line.now c.args.at) in
+    all_from_yields_List is_printable _ _ c.all.result c.all.ensures.ran yields (λ x b q k. search (rules, tests)) ∙ all-printable rest

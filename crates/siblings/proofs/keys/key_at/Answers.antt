@@ -5,14 +5,14 @@ use Rattle.siblings.proofs.keys.key_at.Goals as goal
 pub returns-then-text-at-lt2 : goal.returns-then-text-at-lt2
 returns-then-text-at-lt2 c = search key-short
 
-pub returns-in_default : goal.returns-in_default
-returns-in_default c = search key-nameless
+pub returns-in_err-name : goal.returns-in_err-name
+returns-in_err-name c = rw c.from_residual.ensures (search (key-nameless, c.in_err-name.ensures))
 
 pub returns-then-text-gap-lt8 : goal.returns-then-text-gap-lt8
-returns-then-text-gap-lt8 c = search key-cut
+returns-then-text-gap-lt8 c = search (key-cut, c.in_ok-name.ensures)
 
-pub returns-in_default-number_at : goal.returns-in_default-number_at
-returns-in_default-number_at c = search key-unlabelled
+pub returns-in_err-label : goal.returns-in_err-label
+returns-in_err-label c = rw c.from_residual-in_err-label.ensures (search (key-unlabelled, c.in_ok-name.ensures, c.in_err-label.ensures))
 
 pub returns : goal.returns
-returns c = search key-found
+returns c = search (key-found, c.in_ok-name.ensures, c.in_ok-label.ensures)

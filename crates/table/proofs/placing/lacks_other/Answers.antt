@@ -1,5 +1,4 @@
 -- `table::placing::lacks_other`: the subject's own elements, then the labels before his.
-use borrow.Author.Rules.{rules}
 use native.Mathlib.Omega.{arith}
 use Rattle.table.proofs.Coming.{other-shared, other-end, other-within, other-asked}
 use Rattle.table.proofs.placing.lacks_other.Goals as goal
@@ -14,7 +13,7 @@ pub slice_bounds-in_view_before-end : goal.slice_bounds-in_view_before-end
 slice_bounds-in_view_before-end c = other-end c.requires c.if-lower-held.false
 
 pub in_view_before-requires : goal.in_view_before-requires
-in_view_before-requires c = (c.requires.absent.opened, other-within c.requires c.if-lower-held.false)
+in_view_before-requires c = other-within c.requires c.if-lower-held.false
 
 pub returns : goal.returns
 returns c = other-asked c.requires c.if-lower-held.false c.in_view_before.ensures

@@ -1,13 +1,11 @@
 -- `table::placing::room_at`: what the subject's own elements share, the steps of other labels, then the free slots.
-use borrow.Author.Rules.{rules}
 use native.Mathlib.Omega.{arith}
 use Rattle.model.proofs.Dominance.{dominates-refl}
-use Rattle.table.proofs.Walking.{own-few}
 use Rattle.table.proofs.Coming.{absent-part, absent-searched, place-seven, place_short, place-nine, place-free}
 use Rattle.table.proofs.placing.room_at.Goals as goal
 
 pub partition_of-part-requires : goal.partition_of-part-requires
-partition_of-part-requires c = (c.requires.opened.size, dominates-refl _ c.requires.opened.label)
+partition_of-part-requires c = dominates-refl _ c.requires.opened.label
 
 pub steps_held-held-requires : goal.steps_held-held-requires
 steps_held-held-requires c = absent-part c.requires c.partition_of-part.ensures
@@ -25,18 +23,18 @@ overflow_sub-wanted c =
     omega (
       arith,
       place_short c.requires c.partition_of-part.ensures c.steps_held-held.ensures c.steps_before-lower.ensures
-          c.lacks_other.ensures c.if-lacks_other.false c.most-seen.ensures,
+          c.lacks_other.ensures c.if-lacks_other.false c.max-seen.ensures,
     )
 
 pub overflow_sub-count : goal.overflow_sub-count
-overflow_sub-count c = own-few c.requires.opened c.partition_of-part.ensures c.count.ensures
+overflow_sub-count c = c.count-count.ensures.1
 
 pub returns-then-count-wanted : goal.returns-then-count-wanted
 returns-then-count-wanted c =
     place-nine c.requires c.partition_of-part.ensures c.steps_held-held.ensures c.steps_before-lower.ensures
-    c.lacks_other.ensures c.if-lacks_other.false c.most-seen.ensures c.count.ensures c.if-count-wanted.true
+    c.lacks_other.ensures c.if-lacks_other.false c.max-seen.ensures c.count-count.ensures.0 c.if-count-wanted.true
 
 pub returns : goal.returns
 returns c =
     place-free c.requires c.partition_of-part.ensures c.steps_held-held.ensures c.steps_before-lower.ensures
-    c.lacks_other.ensures c.if-lacks_other.false c.most-seen.ensures c.count.ensures c.if-count-wanted.false
+    c.lacks_other.ensures c.if-lacks_other.false c.max-seen.ensures c.count-count.ensures.0 c.if-count-wanted.false
