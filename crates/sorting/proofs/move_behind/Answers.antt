@@ -16,11 +16,11 @@ overflow_mul-end c = omega (arith, c.requires.0.few, c.requires)
 pub overflow_add-end : goal.overflow_add-end
 overflow_add-end c = omega (arith, c.requires.0.few, c.requires)
 
-pub slice_bounds-rotate_left-end : goal.slice_bounds-rotate_left-end
-slice_bounds-rotate_left-end c = omega (arith, laid-size c.requires.0, c.requires.0.few, c.requires.2)
+pub slice_bounds-turn-end : goal.slice_bounds-turn-end
+slice_bounds-turn-end c = omega (arith, laid-size c.requires.0, c.requires.0.few, c.requires.2)
 
-pub rotate_left-requires : goal.rotate_left-requires
-rotate_left-requires c = part_filled c.requires.0 _ _ c.requires.1 c.requires.2
+pub turn-requires : goal.turn-requires
+turn-requires c = part_filled c.requires.0 _ _ c.requires.1 c.requires.2
 
 pub returns : goal.returns
-returns c = moved-bytes c.requires.0 _ _ c.requires.1 c.requires.2 c.rotate_left.ensures.after
+returns c = moved-bytes c.requires.0 _ _ c.requires.1 c.requires.2 c.turn.ensures
