@@ -160,10 +160,14 @@ fn inside_at(
 }
 
 // The tree that a whole text sends, to be put below so many steps; its first 32 elements are kept.
-pub fn read(text: &[u8], above: usize, subject: u8, marks: &mut [Mark; 32]) -> Option<Tree>
+pub fn read(text: &[u8], above: usize, subject: u8, marks: &mut [Mark]) -> Option<Tree>
+    requires { length marks.old ≡ 32 }
     ensures { SentBy above subject text.now marks.new result }
 {
-    let t = tree_at(text, 0, above, u64::from(subject), marks, 0)?;
+    let Some(kept) = marks.as_mut_array() else {
+        unreachable!()
+    };
+    let t = tree_at(text, 0, above, u64::from(subject), kept, 0)?;
     if t.next < text.len() {
         return None;
     }
