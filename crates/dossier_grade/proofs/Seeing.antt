@@ -35,7 +35,7 @@ use Rattle.kind.specs.declared.Kind.{Kind}
 use Rattle.kind.specs.declared.Rule.{Rule}
 use Rattle.kind.specs.Code.{code}
 use Rattle.kind.specs.Rule.{rule_of}
-use Rattle.kind.proofs.Rules.{number-kind, known-kind}
+use Rattle.kind.proofs.Rules.{rule-numbered, number-kind, known-kind}
 use Rattle.text.proofs.Showing.{measure-length}
 use Rattle.std.specs.Prelude.{Some, None, Result, Ok, Err}
 use Rattle.std.specs.Prelude as plain
@@ -133,7 +133,7 @@ kind-known c e t = rw e (known-kind c.kind c.value t)
 
 module _ (c : Content) (k : Kind) (e : code k ≡ c.kind) {r : Rule} (q : r ≡ rule_of k) where
   by_kind : r.number ≡ eqb c.kind 1
-  by_kind = ap (λ (x : Rule). x.number) q ∙ number-kind k ∙ ap (λ (n : ℕ). eqb n 1) e
+  by_kind = ap (λ (x : Rule). x.number) (q ∙ rule-numbered k) ∙ number-kind (code k) ∙ ap (λ (n : ℕ). eqb n 1) e
 
   pub content-other : r.number ≡ false → Ok None ≡ sight_of true (some c)
   content-other t = ap Ok (sym (cond_no (eqb c.kind 1) (Some (measure_of c.value)) None (failed by_kind t)))
