@@ -15,7 +15,7 @@ use Rattle.model.specs.Text.{measure_of}
 use Rattle.model.specs.View.{visible, in_view, content_at}
 use Rattle.model.specs.Grade.{whole_of, measure_in, measure_at, Even, step_of, remainder_of}
 use Rattle.model.specs.Rows.{row_code, view_path, view_path_rows, seen_rows, sizes_rows, measure_rows, asked_rows, measured_rows}
-use Rattle.model.specs.Call.{grade, op_rows, grade_told, grade_of, writes, effect}
+use Rattle.model.specs.Call.{Told, grade, op_rows, grade_told, grade_of, writes, effect}
 use Rattle.model.specs.Call as told
 use Rattle.model.proofs.Bools.{and_l, and_r, both, not-not, yes-not-not}
 use Rattle.model.proofs.Rows.{Passes, passes_append, row-applies, rows_behind, rows_pass, rows_end}
@@ -65,6 +65,14 @@ module _ (p q : List ℕ) (n : ℕ) where
           rows_end (asked_rows p q n) (passes_append (view_path_rows p ++ view_path_rows q) (sizes_rows n) paths-pass (yes-not-not (leb 1 n && leb n 64) sizes, tt))
 
 -- ---- rows 7 and 12, and the grade
+
+-- what an even grade tells of the sights of its two paths: 7 before 12, then the grade
+abbrev pub told_of : (base top : Result (plain.Option ℕ) Refusal) → ℕ → Told
+told_of (Err x) y n = grade_told 7 (pos 0) 0
+told_of (Ok u) (Err y) n = grade_told 7 (pos 0) 0
+told_of (Ok None) (Ok v) n = grade_told 12 (pos 0) 0
+told_of (Ok (Some a)) (Ok None) n = grade_told 12 (pos 0) 0
+told_of (Ok (Some a)) (Ok (Some d)) n = grade_told 0 (step_of n (whole_of d -ℤ whole_of a)) (remainder_of n (whole_of d -ℤ whole_of a))
 
 -- what a sight says of the path
 abbrev Sees : Result (plain.Option ℕ) Refusal → ℕ → List ℕ → List Step → Type 0
@@ -124,6 +132,16 @@ module _ (s : ℕ) (b : List ℕ) (p q : List Step) where
       rows_behind (seen_rows s (open_model b) p) (seen_rows s (open_model b) q ++ measure_rows s (open_model b) p ++ measure_rows s (open_model b) q)
       (yes-not-not (in_view s (open_model b) p) v, tt) (row-applies _ _ t)
 
+-- what is told where a path is not seen
+pub told-seven : (s : ℕ) (b : List ℕ) (p : List Step) {x : Refusal} → Err x ≡ sight_at s b p → grade_told (code x) (pos 0) 0 ≡ grade_told 7 (pos 0) 0
+told-seven s b p {x} f = let w : Sees (Err x) s b p = sees-as s b p f in ap (λ (k : ℕ). grade_told k (pos 0) 0) w.1
+
+-- what satisfies the equation and the bound is what the definitions tell
+pub evenly-told : (a d n : ℕ) → 0 < n → {z : ℤ} {r : ℕ} → Even n (whole_of d -ℤ whole_of a) z r → grade_told 0 z r ≡ told_of (Ok (Some a)) (Ok (Some d)) n
+evenly-told a d n h {z} {r} e =
+    let f : (z ≡ step_of n (whole_of d -ℤ whole_of a)) × (r ≡ remainder_of n (whole_of d -ℤ whole_of a)) = even-one n h e in
+    ap₂ (grade_told 0) f.0 f.1
+
 -- ---- the call
 
 module _ {s : ℕ} {b : List ℕ} (o : Opened b s) (p q : List ℕ) (n : ℕ) where
@@ -182,14 +200,24 @@ module _ {s : ℕ} {b : List ℕ} (o : Opened b s) (p q : List ℕ) (n : ℕ) wh
               let w : Sees (Ok None) s b (steps_of q) = subst (λ (x : plain.Option ℕ). Sees (Ok x) s b (steps_of q)) k top-seen in
               unmeasured NoMeasure (twelve-top s b (steps_of p) (steps_of q) base-measure.0 w.0 base-measure.1 w.1)
 
-          -- what satisfies the equation and the bound is what the operation tells
-          pub grade-acts : {d : ℕ} → v ≡ Some d → {z : ℤ} {r : ℕ} → Even n (whole_of d -ℤ whole_of a) z r → Acted (grade p q n) s b [] (grade_told 0 z r) b []
+          -- both are measures
+          both-measures : {d : ℕ} → v ≡ Some d → Acted (grade p q n) s b [] (told_of (Ok (Some a)) (Ok (Some d)) n) b []
           unfolding op_rows effect writes
-          grade-acts {d} k {z} {r} even =
+          both-measures {d} k =
               let w : Sees (Ok (Some d)) s b (steps_of q) = subst (λ (x : plain.Option ℕ). Sees (Ok x) s b (steps_of q)) k top-seen in
-              let is : (z ≡ step_of n (whole_of d -ℤ whole_of a)) × (r ≡ remainder_of n (whole_of d -ℤ whole_of a)) = even-one n some-sizes even in
-              gives-told (ap₂ (grade_told 0) is.0 is.1)
-              (acted-done (grade p q n) s b [] o.formed
+              acted-done (grade p q n) s b [] o.formed
               (passes_append (asked_rows p q n) (measured_rows s (open_model b) (steps_of p) (steps_of q)) asked
               (measured-both s b (steps_of p) (steps_of q) base-measure.0 w.0 base-measure.1 w.1))
-              (ap (λ (x : told.Result). writes x []) (ap₂ (grade_of n) base-measure.1 w.1)) refl refl)
+              (ap (λ (x : told.Result). writes x []) (ap₂ (grade_of n) base-measure.1 w.1)) refl refl
+
+    -- what is told of the two sights is what the operation tells
+    pub grade-acts : {x y : Result (plain.Option ℕ) Refusal} {t : Told} → x ≡ sight_at s b (steps_of p) → y ≡ sight_at s b (steps_of q) → t ≡ told_of x y n
+        → Acted (grade p q n) s b [] t b []
+    grade-acts {x} {y} f g h = gives-told h (acts x y f g)
+      where
+        acts : (x y : Result (plain.Option ℕ) Refusal) → x ≡ sight_at s b (steps_of p) → y ≡ sight_at s b (steps_of q) → Acted (grade p q n) s b [] (told_of x y n) b []
+        acts (Err x) y f g = gives-told (sym (told-seven s b (steps_of p) f)) (unseen-base x f)
+        acts (Ok u) (Err y) f g = gives-told (sym (told-seven s b (steps_of q) g)) (unseen-top f y g)
+        acts (Ok None) (Ok v) f g = no-base f g refl
+        acts (Ok (Some a)) (Ok None) f g = no-top f g refl refl
+        acts (Ok (Some a)) (Ok (Some d)) f g = both-measures f g refl refl

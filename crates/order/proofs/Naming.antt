@@ -10,7 +10,7 @@ use lib.Dec.{T, ltb}
 use mir.Facts.{ltb_yes}
 use Rattle.model.specs.Label.{dominates}
 use Rattle.model.specs.Path.{path_rank}
-use Rattle.model.specs.Element.{valid_element}
+use Rattle.model.specs.Element.{Element, valid_element}
 use Rattle.model.specs.Slot.{read_path, read_slot}
 use Rattle.model.specs.Partition.{count, slot_at}
 use Rattle.model.specs.Store.{partition}
@@ -23,7 +23,7 @@ use Rattle.partition.proofs.Finding.{formed-valid}
 use Rattle.store.specs.Opened.{Opened}
 use Rattle.store.proofs.Parts.{dominated-lt}
 use Rattle.store.proofs.Viewing.{opened-formed}
-use Rattle.order.specs.Refs.{slot_of, element_of, refers, Runs, Takes}
+use Rattle.order.specs.Refs.{Refers, slot_of, element_of, refers, Runs, Takes}
 
 module _ (s : ℕ) (b : List ℕ) (r : ℕ) (t : T (refers s b r)) where
   pub ref-dominated : T (dominates s (r / 32))
@@ -86,7 +86,8 @@ module _ {s : ℕ} {b xs ys : List ℕ} (u : Runs s b xs ys) where
 
 -- ---- the references behind the first n are not used
 
-pub first-refs : {n k : ℕ} (rs : List ℕ) → n ≤ 32 * k → k ≤ 32 → length (take n rs) ≤ 1024
-first-refs {n} rs h g =
+pub first-refs : {s : ℕ} {b : List ℕ} {es : List Element} (n : ℕ) (rs : List ℕ) → n ≤ 1024 → Refers s b (take n rs) es
+    → (length (take n rs) ≤ 1024) × Refers s b (take n rs) es
+first-refs n rs h r =
     let l : length (take n rs) ≡ min n (length rs) = length-take n rs in
-    omega arith
+    (omega arith, r)

@@ -44,6 +44,10 @@ pub formed-set : (n : ℕ) (b : List ℕ) → T (well_formed n (partition n b)) 
 unfolding own_set open_model open_cell elements
 formed-set n b t = ap elements (cond_yes (well_formed n (partition n b)) (held (read_partition (partition n b))) (raw (partition n b)) t)
 
+-- a partition that the subject does not dominate does not matter
+pub not-dominated : (s n : ℕ) (b : List ℕ) {r : Bool} → r ≡ dominates s n → r ≡ false → false ≡ (dominates s n && not (is_held ((open_model b).cell n)))
+not-dominated s n b e t = let q : dominates s n ≡ false = sym e ∙ t in rw q
+
 -- of a label that the subject dominates, what the test of its partition tells
 module _ (s n : ℕ) (b : List ℕ) {r : Bool} (e : r ≡ dominates s n) (t : r ≡ true) where
   pub is-dominated : T (dominates s n)

@@ -39,6 +39,10 @@ opened-formed {b} {s} o n t =
 pub opened-set : {b : List ℕ} {s : ℕ} → Opened b s → (n : ℕ) → T (dominates s n) → own_set n (open_model b) ≡ read_partition (partition n b)
 opened-set {b} o n t = formed-set n b (opened-formed o n t)
 
+-- of a label that the subject does not dominate nothing is seen
+pub not-below : {b : List ℕ} {s : ℕ} → Opened b s → (p : List Step) (n : ℕ) {r : Bool} → r ≡ dominates s n → r ≡ false → false ≡ below_at s b p n
+not-below {b} {s} o p n e t = let q : dominates s n ≡ false = sym e ∙ t in rw q
+
 -- one label that the subject dominates
 module _ {b : List ℕ} {s : ℕ} (o : Opened b s) (p : List Step) (n : ℕ) {r : Bool} (e : r ≡ dominates s n) (yes : r ≡ true) where
   dominated : T (dominates s n)

@@ -1,11 +1,11 @@
 -- `dossier_grade::grade`: rows 1 to 4 and 11, then what is seen at the two paths.
-use mathlib.Core.Path.{◌≡◌}
+use mathlib.Core.Path.{◌≡◌, refl}
 use native.Mathlib.Omega.{arith}
 use Rattle.std.specs.Prelude.{Some, None}
 use Rattle.promise.specs.declared.Refusal.TheVariants.{NoMeasure}
 use Rattle.promise.proofs.Refusing.{exit-err}
 use Rattle.table.proofs.Entering.{entry-refused, entry-lent, entry-unformed, entry-did}
-use Rattle.dossier_grade.proofs.Telling.{grade-stops, asked-paths, some-sizes, unseen-base, unseen-top, no-base, no-top, grade-acts}
+use Rattle.dossier_grade.proofs.Telling.{told-seven, evenly-told, grade-stops, asked-paths, some-sizes, grade-acts}
 use Rattle.dossier_grade.proofs.grade.Goals as goal
 
 pub check_formed-requires : goal.check_formed-requires
@@ -29,7 +29,8 @@ pub returns-in_err-at_base : goal.returns-in_err-at_base
 returns-in_err-at_base c =
     let same = c.in_ok-reader.ensures.same in
     rw (exit-err c.from_residual-in_err-at_base.ensures.1)
-    (entry-did c.in_ok-label.ensures _ (unseen-base c.in_ok-reader.ensures.formed _ _ _ c.in_ok-check_asked.ensures _ (rw (same.0, same.1) at c.in_err-at_base.ensures)))
+    (entry-did c.in_ok-label.ensures _ (grade-acts c.in_ok-reader.ensures.formed _ _ _ c.in_ok-check_asked.ensures (rw (same.0, same.1) at c.in_err-at_base.ensures) refl
+    (told-seven _ _ _ (rw (same.0, same.1) at c.in_err-at_base.ensures))))
 
 pub seen_at-requires-2 : goal.seen_at-requires-2
 seen_at-requires-2 c = (asked-paths c.in_ok-reader.ensures.formed _ _ c.args.n c.in_ok-check_asked.ensures).1
@@ -39,7 +40,8 @@ returns-in_err-at_top c =
     let same = c.in_ok-reader.ensures.same in
     rw (exit-err c.from_residual-in_err-at_top.ensures.1)
     (entry-did c.in_ok-label.ensures _
-    (unseen-top c.in_ok-reader.ensures.formed _ _ _ c.in_ok-check_asked.ensures (rw (same.0, same.1) at c.in_ok-at_base.ensures) _ (rw (same.0, same.1) at c.in_err-at_top.ensures)))
+    (grade-acts c.in_ok-reader.ensures.formed _ _ _ c.in_ok-check_asked.ensures (rw (same.0, same.1) at c.in_ok-at_base.ensures) (rw (same.0, same.1) at c.in_err-at_top.ensures)
+    (told-seven _ _ _ (rw (same.0, same.1) at c.in_err-at_top.ensures))))
 
 pub returns-in_err-from : goal.returns-in_err-from
 returns-in_err-from c =
@@ -48,7 +50,8 @@ returns-in_err-from c =
     let is : c.in_err-from.field-0.0 ≡ NoMeasure = grind arith in
     rw (exit-err c.from_residual-in_err-from.ensures.1, is)
     (entry-did c.in_ok-label.ensures _
-    (no-base c.in_ok-reader.ensures.formed _ _ _ c.in_ok-check_asked.ensures (rw (same.0, same.1) at c.in_ok-at_base.ensures) (rw (same.0, same.1) at c.in_ok-at_top.ensures) none))
+    (grade-acts c.in_ok-reader.ensures.formed _ _ _ c.in_ok-check_asked.ensures (rw (same.0, same.1, none) at c.in_ok-at_base.ensures) (rw (same.0, same.1) at c.in_ok-at_top.ensures)
+    refl))
 
 pub returns-in_err-to : goal.returns-in_err-to
 returns-in_err-to c =
@@ -58,7 +61,8 @@ returns-in_err-to c =
     let is : c.in_err-to.field-0.0 ≡ NoMeasure = grind arith in
     rw (exit-err c.from_residual-in_err-to.ensures.1, is)
     (entry-did c.in_ok-label.ensures _
-    (no-top c.in_ok-reader.ensures.formed _ _ _ c.in_ok-check_asked.ensures (rw (same.0, same.1) at c.in_ok-at_base.ensures) (rw (same.0, same.1) at c.in_ok-at_top.ensures) some none))
+    (grade-acts c.in_ok-reader.ensures.formed _ _ _ c.in_ok-check_asked.ensures (rw (same.0, same.1, some) at c.in_ok-at_base.ensures)
+    (rw (same.0, same.1, none) at c.in_ok-at_top.ensures) refl))
 
 pub between-requires : goal.between-requires
 between-requires c = some-sizes c.in_ok-reader.ensures.formed _ _ _ c.in_ok-check_asked.ensures
@@ -66,5 +70,9 @@ between-requires c = some-sizes c.in_ok-reader.ensures.formed _ _ _ c.in_ok-chec
 pub returns : goal.returns
 returns c =
     let same = c.in_ok-reader.ensures.same in
+    let some : c.in_ok-at_base.at_base ≡ Some c.in_ok-from.from = grind arith in
+    let other : c.in_ok-at_top.at_top ≡ Some c.in_ok-to.to = grind arith in
     entry-did c.in_ok-label.ensures _
-    (grade-acts c.in_ok-reader.ensures.formed _ _ _ c.in_ok-check_asked.ensures (rw (same.0, same.1) at c.in_ok-at_base.ensures) (rw (same.0, same.1) at c.in_ok-at_top.ensures) (grind arith) (grind arith) c.between.ensures)
+    (grade-acts c.in_ok-reader.ensures.formed _ _ _ c.in_ok-check_asked.ensures (rw (same.0, same.1, some) at c.in_ok-at_base.ensures)
+    (rw (same.0, same.1, other) at c.in_ok-at_top.ensures)
+    (evenly-told _ _ c.args.n (some-sizes c.in_ok-reader.ensures.formed _ _ _ c.in_ok-check_asked.ensures) c.between.ensures))
