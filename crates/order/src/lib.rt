@@ -167,8 +167,19 @@ fn order_labels(
     n
 }
 
-// What a reader sees at or below a path, its references written into the first of two lent slices. Slices, since an array's type
-// would ask more of callers than 1,024 places.
+// References to what a reader sees at or below a path, in path order, written into the first of two lent slices: how many. Slices,
+// since an array's type would ask more of callers than 1,024 places.
+pub fn put_refs(reader: &Reader<'_>, path: &[u8], refs: &mut [u16], spare: &mut [u16]) -> usize
+    requires { (1024 ≤ length refs.old) × (1024 ≤ length spare.old) }
+    ensures refers { Refers reader.now.subject reader.now.store.now (take result refs.new) (seen_below reader.now.subject (open_model reader.now.store.now) (steps_of path.now)) }
+    ensures upper_bound { result ≤ 1024 }
+{
+    let mut room = [0u8; 32];
+    let labels = occupied::occupied(reader, path, &mut room);
+    order_labels(reader, path, labels, refs, spare)
+}
+
+// What a reader sees at or below a path, its references written into the first of two lent slices, which it keeps.
 pub fn order<'s, 'a>(
     reader: &Reader<'s>,
     path: &'a [u8],
@@ -179,9 +190,7 @@ pub fn order<'s, 'a>(
     ensures reader { (result.reader.subject ≡ reader.now.subject) × (result.reader.store.now ≡ reader.now.store.now) }
     ensures path { result.path.now ≡ path.now }
 {
-    let mut room = [0u8; 32];
-    let labels = occupied::occupied(reader, path, &mut room);
-    let n = order_labels(reader, path, labels, refs, spare);
+    let n = put_refs(reader, path, refs, spare);
     Seen {
         reader: *reader,
         path,
