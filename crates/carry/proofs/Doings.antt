@@ -5,7 +5,7 @@ use Prim.Native.Nat.{ℕ, ◌+◌, ◌-◌, ◌≤◌}
 use native.Mathlib.Omega.{arith}
 use borrow.Rule.Slice.PartMut.{put_mid}
 use lib.ListN.{length, take, drop, take-append-drop, length-drop}
-use lib.Seq.{take_all, length-take-le, drop-append-le}
+use lib.Seq.{take_all, take_at, length-take-le, drop-append-le}
 use Rattle.model.specs.Path.{Step, is_prefix, steps_of}
 use Rattle.model.specs.Value.{Content}
 use Rattle.model.specs.Model.{open_model, own_set}
@@ -21,12 +21,15 @@ use Rattle.model.proofs.Rows.{passes-both}
 use Rattle.model.proofs.Groups.{rows-placed}
 use Rattle.model.proofs.Operations.{Admitted, outcome-either}
 use Rattle.model.proofs.Refusals.{answer-fits}
+use Rattle.octets.specs.Joined.{word_bytes}
 use Rattle.text.specs.Overlay.{overlay}
 use Rattle.text.proofs.Overlays.{over-room, wrote_none}
 use Rattle.std.specs.Prelude as code
 use Rattle.promise.specs.Did.{Did}
 use Rattle.promise.specs.declared.Refusal.{Refusal}
 use Rattle.promise.specs.Refusals.{number_of, count_of}
+use Rattle.script.specs.declared.Value.{Value}
+use Rattle.script.specs.declared.Value.TheVariants.{Group, Measure, Text}
 use Rattle.script.specs.Values.{value_of}
 use Rattle.script.specs.declared.Call as read
 use Rattle.script.specs.declared.Read.{Read}
@@ -35,9 +38,27 @@ use Rattle.carry.specs.Done.{op_on, call_on, Performed}
 
 -- ---- the value
 
--- the bytes of a text, which are the last of its line
-pub text-brought : (l : List ℕ) (n : ℕ) {at : ℕ} → at ≡ length l - n → take (length l - at) (drop at l) ≡ drop (length l - n) l
-text-brought l n {at = at} e = take_all (length l - at) (drop at l) (omega (arith, length-drop at l)) ∙ ap (λ (k : ℕ). drop k l) e
+module _ {v : Value} (l : List ℕ) where
+  pub group-brought : v ≡ Group → (b : List ℕ) → content_of (value_of v l) ≡ record { kind = 0; value = take 0 b }
+  group-brought e b = ap (λ (u : Value). content_of (value_of u l)) e
+
+  pub measure-brought : {m : ℕ} → v ≡ Measure m → (b : List ℕ) {r : List ℕ} → b ≡ word_bytes m ++ r → content_of (value_of v l) ≡ record { kind = 1; value = take 4 b }
+  measure-brought e b f = ap (λ (u : Value). content_of (value_of u l)) e ∙ ap (λ (t : List ℕ). record { kind = 1; value = take 4 t }) (sym f)
+
+  -- the bytes of a text, which are the last of its line
+  pub text-brought : {n : ℕ} → v ≡ Text n → {at : ℕ} → at ≡ length l - n → (b : List ℕ) {t y : List ℕ} → t ≡ drop at l → y ≡ t ++ drop (length t) b
+      → content_of (value_of v l) ≡ record { kind = 2; value = take (length t) y }
+  text-brought {n} e {at} f b {t} {y} g h =
+      ap (λ (u : Value). content_of (value_of u l)) e
+      ∙ ap (λ (s : List ℕ). record { kind = 2; value = s })
+      (sym (ap (take (length t)) h ∙ take_at t (drop (length t) b) (length t) refl ∙ g ∙ ap (λ (k : ℕ). drop k l) f))
+
+  -- what is lent of the line from where they begin
+  pub text-lent : {n : ℕ} → v ≡ Text n → {at : ℕ} → at ≡ length l - n → take (length l - at) (drop at l) ≡ (content_of (value_of v l)).value
+  text-lent e {at} f =
+      let t : List ℕ = drop at l in
+      take_all (length l - at) t (omega (arith, length-drop at l))
+      ∙ sym (ap (λ (c : Content). c.value) (text-brought e f [] refl refl) ∙ take_at t (drop (length t) []) (length t) refl)
 
 -- a call with the content that was brought
 pub brought-did : (f : Content → Op) (c : Content) (s : ℕ) {v x y b t : List ℕ} {i : Told} → Did (by s (f (record { kind = c.kind; value = v }))) x [] i y []

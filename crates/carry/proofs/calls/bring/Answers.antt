@@ -1,7 +1,7 @@
 -- `calls::bring`: by the value.
 use mathlib.Core.Path.{refl}
 use Rattle.std.proofs.Common.{rules}
-use Rattle.carry.proofs.Doings.{text-brought}
+use Rattle.carry.proofs.Doings.{text-lent}
 use Rattle.carry.proofs.calls.bring.Goals as goal
 
 pub returns-in-Group : goal.returns-in-Group
@@ -21,6 +21,6 @@ returns-in-Text g c =
       left = _;
       met = c.act-in-Text.ensures;
       store_is = refl;
-      value_is = text-brought c.args.line.now c.in-Text.n c.saturating_sub-at.ensures;
+      value_is = text-lent c.args.line.now refl c.saturating_sub-at.ensures;
       left_is = refl;
     })
