@@ -1,16 +1,17 @@
 -- The lines of an input that is cut in two, and where the first line ends.
 use mathlib.Core.Path.{◌≡◌, refl, sym, ap, ◌∙◌}
-use mathlib.Core.Bool.{Bool, not, cond}
+use mathlib.Core.Bool.{Bool, true, not, cond}
 use mathlib.Core.List.{List, [], ◌∷◌, ◌++◌, append-nil}
-use Prim.Native.Nat.{ℕ, zero, suc, ◌≤◌, ◌<◌, min}
+use Prim.Native.Nat.{ℕ, zero, suc, ◌+◌, ◌-◌, ◌≤◌, ◌<◌, min}
 use native.Mathlib.Omega.{arith}
-use lib.ListN.{length, take}
-use lib.Seq.{append_snoc}
+use lib.ListN.{length, take, drop, length-drop}
+use lib.Seq.{append_snoc, drop-drop}
 use lib.Dec.{T, eqb}
 use Rattle.std.proofs.lemmas.Bool.{false_from_ne_true}
 use Rattle.memchr.specs.Find.{Nowhere, Passes, is_byte}
+use Rattle.model.specs.Lists.{all}
 use Rattle.model.specs.Script.{lines_from}
-use Rattle.model.proofs.Bools.{decide, is_true, is_false}
+use Rattle.model.proofs.Bools.{and_l, and_r, decide, is_true, is_false}
 use Rattle.batch.specs.Pieces.{ended, begun, last, end_at, span}
 
 -- ---- an input cut in two
@@ -56,6 +57,39 @@ end-some (x ∷ s) zero h e n = sym (ap (λ (b : Bool). cond b 0 (suc (end_at s)
 end-some (x ∷ s) (suc k) h e n =
     ap suc (end-some s k (omega arith) e (λ j g l p. n (suc j) (omega arith) (omega arith) p))
     ∙ sym (ap (λ (b : Bool). cond b 0 (suc (end_at s))) (false_from_ne_true (eqb x 10) (n 0 (omega arith) (omega arith))))
+
+-- ---- the first line end is sought
+
+-- whether no byte is a line end
+unfoldable pub lacks_end : List ℕ → Bool
+lacks_end i = all (λ x. not (eqb x 10)) i
+
+-- the first line end is not among the first n bytes
+pub record NotBefore (i : List ℕ) (n : ℕ) : Type 0 where
+  pub within : n ≤ length i
+  pub same : end_at i ≡ n + end_at (drop n i)
+
+-- it is not among bytes that are none
+past : (n : ℕ) (l : List ℕ) → n ≤ length l → T (lacks_end (take n l)) → end_at l ≡ n + end_at (drop n l)
+unfolding lacks_end
+past zero l h t = omega arith
+past (suc n) [] h t = absurd (omega arith)
+past (suc n) (x ∷ l) h t =
+    let e : end_at l ≡ n + end_at (drop n l) =
+    past n l (omega arith) (and_r (not (eqb x 10)) (all (λ y. not (eqb y 10)) (take n l)) t) in
+    rw (is_false (eqb x 10) (and_l (not (eqb x 10)) (all (λ y. not (eqb y 10)) (take n l)) t)) (omega arith)
+
+module _ {s : List ℕ} {i : ℕ} (inv : NotBefore s i) where
+  -- a block that lacks it
+  pub seek-block : {n z : ℕ} {b : Bool} → n ≤ length s - i → z ≡ n → b ≡ lacks_end (take z (drop i s)) → b ≡ true → NotBefore s (i + n)
+  seek-block {n} {z} {b} h e f g =
+      let w : i ≤ length s = inv.within in
+      let l : length (drop i s) ≡ length s - i = length-drop i s in
+      let t : T (lacks_end (take z (drop i s))) = rw (← f, g) tt in
+      let p : end_at (drop i s) ≡ z + end_at (drop z (drop i s)) = past z (drop i s) (omega arith) t in
+      let d : drop z (drop i s) ≡ drop (i + n) s = drop-drop z i s ∙ ap (λ (k : ℕ). drop (i + k) s) e in
+      let q : end_at (drop z (drop i s)) ≡ end_at (drop (i + n) s) = ap end_at d in
+      record { within = omega arith; same = omega (arith, inv.same) }
 
 -- ---- where the first line ends
 

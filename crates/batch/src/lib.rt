@@ -3,7 +3,7 @@
 
 ghost use Rattle.std.specs.Prelude.{◌≡◌, [], ◌∷◌, ◌++◌, ◌≤◌, length, take, replicate};
 ghost use Rattle.carry.specs.Lines.{Carried};
-ghost use Rattle.batch.specs.Pieces.{last, Kept, TakenIn};
+ghost use Rattle.batch.specs.Pieces.{last, kept_size, Kept, TakenIn};
 
 use memchr::memchr;
 
@@ -15,11 +15,12 @@ pub struct Line {
     ghost fits: { kept ≤ 257 },
 }
 
-// What taking in a piece did: the bytes of input that were used, and the bytes of output written.
+// What taking in a piece did: the bytes of input that were used, the bytes of output written, and those kept of the line begun.
 #[derive(Drop)]
 pub struct Taken {
     pub used: usize,
     pub wrote: usize,
+    pub kept: usize,
 }
 
 impl Line {
@@ -40,59 +41,80 @@ impl Line {
         &self.bytes[..self.kept]
     }
 
-    // Puts bytes behind those kept, as far as there is room.
-    fn keep(&mut self, more: &[u8])
-        ensures { Kept self.old.bytes self.old.kept more.now self.new.bytes self.new.kept }
+    // Takes in the input up to its first line end, as the function of that name does.
+    pub fn take_in(
+        &mut self,
+        store: &mut [u8],
+        input: &[u8],
+        path: &mut [u8],
+        out: &mut [u8],
+    ) -> Taken
+        requires { (192 ≤ length path.old) × (16448 ≤ length out.old) }
+        ensures { TakenIn (take self.old.kept self.old.bytes) store.old out.old input.now result.used result.wrote self.new.kept self.new.bytes store.new out.new }
     {
-        let n = more.len().min(257 - self.kept);
-        let end = self.kept + n;
-        self.bytes[self.kept..end].copy_from_slice(&more[..n]);
-        self.kept = end;
+        let taken = take_in(store, &mut self.bytes, self.kept, input, path, out);
+        self.kept = taken.kept;
+        taken
     }
 }
 
-// Carries out the line that begins with the bytes kept and ends with those given. Where none are kept nothing is copied.
+// Puts bytes behind the n that are kept of a line, as far as there is room: how many are kept then.
+fn keep(line: &mut [u8], n: usize, more: &[u8]) -> usize
+    requires { (n ≤ kept_size) × (length line.old ≡ kept_size) }
+    ensures { Kept line.old n more.now line.new result }
+{
+    let m = more.len().min(line.len() - n);
+    let end = n + m;
+    line[n..end].copy_from_slice(&more[..m]);
+    end
+}
+
+// Carries out the line that begins with the n bytes kept and ends with those given. Where none are kept nothing is copied.
 fn end_line(
     store: &mut [u8],
-    line: &mut Line,
+    line: &mut [u8],
+    n: usize,
     more: &[u8],
     path: &mut [u8],
     out: &mut [u8],
 ) -> usize
-    requires { (192 ≤ length path.old) × (16448 ≤ length out.old) }
-    ensures { Carried ((take line.old.kept line.old.bytes ++ more.now) ∷ []) store.old out.old result store.new out.new }
+    requires n_le_kept_size { (n ≤ kept_size) × (length line.old ≡ kept_size) }
+    requires in_bounds { (192 ≤ length path.old) × (16448 ≤ length out.old) }
+    ensures { Carried ((take n line.old ++ more.now) ∷ []) store.old out.old result store.new out.new }
 {
-    if line.kept == 0 {
+    if n == 0 {
         return carry::carry_out(store, more, path, out);
     }
-    line.keep(more);
-    carry::carry_out(store, line.text(), path, out)
+    let m = keep(line, n, more);
+    carry::carry_out(store, &line[..m], path, out)
 }
 
 // Takes in the input up to its first line end: where there is one, the line is carried out; else what there is, is kept.
 // The path, and the line behind what is kept, are room to work in.
 pub fn take_in(
     store: &mut [u8],
-    line: &mut Line,
+    line: &mut [u8],
+    n: usize,
     input: &[u8],
     path: &mut [u8],
     out: &mut [u8],
 ) -> Taken
-    requires { (192 ≤ length path.old) × (16448 ≤ length out.old) }
-    ensures { TakenIn (take line.old.kept line.old.bytes) store.old out.old input.now result.used result.wrote line.new.kept line.new.bytes store.new out.new }
+    requires n_le_kept_size { (n ≤ kept_size) × (length line.old ≡ kept_size) }
+    requires in_bounds { (192 ≤ length path.old) × (16448 ≤ length out.old) }
+    ensures { TakenIn (take n line.old) store.old out.old input.now result.used result.wrote result.kept line.new store.new out.new }
 {
     let Some(end) = memchr(b'\n', input) else {
-        line.keep(input);
         return Taken {
             used: input.len(),
             wrote: 0,
+            kept: keep(line, n, input),
         };
     };
-    let wrote = end_line(store, line, &input[..end], path, out);
-    line.kept = 0;
+    let wrote = end_line(store, line, n, &input[..end], path, out);
     Taken {
         used: end + 1,
         wrote,
+        kept: 0,
     }
 }
 

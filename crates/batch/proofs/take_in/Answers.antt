@@ -8,7 +8,7 @@ use Rattle.batch.proofs.take_in.Goals as goal
 pub returns-in_default : goal.returns-in_default
 returns-in_default c =
     let none : length c.args.input.now ≡ end_at c.args.input.now = end-none c.args.input.now (search rules) in
-    taken-whole c.keep.ensures (omega arith) (search rules) _ _ none refl
+    taken-whole c.keep.ensures c.requires.n_le_kept_size.0 c.requires.n_le_kept_size.1 _ _ none refl
 
 pub returns : goal.returns
 returns c =
