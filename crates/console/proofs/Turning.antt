@@ -2,7 +2,7 @@
 use mathlib.Core.Path.{◌≡◌, refl, sym, ap, subst, ◌∙◌}
 use mathlib.Core.Bool.{Bool, true, false, cond}
 use mathlib.Core.List.{List, [], ◌∷◌, ◌++◌, append-nil, append_assoc}
-use Prim.Native.Nat.{ℕ, ◌+◌, ◌-◌, ◌≤◌}
+use Prim.Native.Nat.{ℕ, zero, suc, ◌+◌, ◌-◌, ◌≤◌}
 use native.Mathlib.Omega.{arith}
 use borrow.Rule.Slice.PartMut.{put_mid, post_of}
 use lib.ListN.{length, take, drop, length-append, length-drop}
@@ -14,10 +14,11 @@ use mathlib.Core.Option.{Option}
 use Rattle.model.specs.Script.{ScriptCall, Readings, lines_of}
 use Rattle.carry.specs.Lines.{Printed, Carried}
 use Rattle.carry.proofs.Carrying.{readings-append, printed-none, printed-append, printed-alike}
-use Rattle.batch.specs.Pieces.{ended, begun, last, span, kept, TakenIn}
+use Rattle.batch.specs.Pieces.{ended, begun, last, kept, TakenIn}
 use Rattle.batch.proofs.Cuts.{lines-ended, ended-append, begun-append}
 use Rattle.batch.proofs.Keeping.{kept-kept, begun-alike, ended-alike, last-alike}
-use Rattle.console.specs.Turns.{HandedOn, TakenUpTo, Ended, Finished, Closed, Turned, Ran}
+use Rattle.console.specs.declared.BrokenOff.{BrokenOff}
+use Rattle.console.specs.Turns.{HandedOn, TakenUpTo, Ended, Stepped, Finished, Closed, Turned, Came, Ran}
 
 -- one of two
 neither : {A : Type 0} {b : Bool} → b ≡ true → b ≡ false → A
@@ -162,25 +163,25 @@ module _ {out : List ℕ} {at start : ℕ} (h : HandedOn out at start) (within :
 
 module _ {out : List ℕ} {at start : ℕ} (h : HandedOn out at start) (within : start ≤ length out) (m : ℕ) where
   pub line_taken : {k s o i l' t y : List ℕ} {used w n : ℕ} → TakenIn k s o i used w n l' t y
-      → TakenUpTo k s (take at out) i used (take n l') t (take (start + w) (put_mid start m out y))
-  line_taken {k} {s} {o} {i} {l'} {t} {y} {used} {w} {n} a =
-      record {
-        text = take w y;
-        handed = h.handed;
-        within = a.used-within;
-        lines = a.done.lines;
-        begins = ap kept a.kept-is ∙ kept-kept (begun k (take used i));
-        output = text-behind h within y a.done.within m;
-      }
+      → Stepped {E = BrokenOff} (Ok used) k s (take at out) i (take n l') t (take (start + w) (put_mid start m out y))
+  line_taken {k} {s} {o} {i} {l'} {t} {y} {used} {w} {n} a = (
+    record {
+      text = take w y;
+      handed = h.handed;
+      within = a.used-within;
+      lines = a.done.lines;
+      begins = ap kept a.kept-is ∙ kept-kept (begun k (take used i));
+      output = text-behind h within y a.done.within m;
+    },
+    a.used-is,
+  )
 
 -- a line taken in where room was made for what it prints
 pub line-room : {out out1 k k1 s o i l' t y : List ℕ} {at start used w n : ℕ} (m : ℕ) → HandedOn out at start → start ≤ length out → out1 ≡ out → k1 ≡ k
-    → TakenIn k1 s o i used w n l' t y → TakenUpTo k s (take at out) i used (take n l') t (take (start + w) (put_mid start m out1 y)) × (used ≡ span i)
-line-room {out} {k = k} {s = s} {o = o} {i = i} {l' = l'} {t = t} {y = y} {at = at} {start = start} {used = used} {w = w} {n = n} m h within e f a = (
-  subst (λ (l : List ℕ). TakenUpTo k s (take at out) i used (take n l') t (take (start + w) (put_mid start m l y))) (sym e)
-      (line_taken h within m (subst (λ (l : List ℕ). TakenIn l s o i used w n l' t y) f a)),
-  a.used-is,
-)
+    → TakenIn k1 s o i used w n l' t y → Stepped {E = BrokenOff} (Ok used) k s (take at out) i (take n l') t (take (start + w) (put_mid start m out1 y))
+line-room {out} {k = k} {s = s} {o = o} {i = i} {l' = l'} {t = t} {y = y} {at = at} {start = start} {used = used} {w = w} {n = n} m h within e f a =
+    subst (λ (l : List ℕ). Stepped {E = BrokenOff} (Ok used) k s (take at out) i (take n l') t (take (start + w) (put_mid start m l y))) (sym e)
+    (line_taken h within m (subst (λ (l : List ℕ). TakenIn l s o i used w n l' t y) f a))
 
 module _ {out : List ℕ} {at start : ℕ} (h : HandedOn out at start) (within : start ≤ length out) (m : ℕ) where
   -- the last line, without an end
@@ -199,11 +200,22 @@ pub feed-next : {k s w i k1 t1 w1 k2 t2 w2 : List ℕ} {from used : ℕ} → Tak
 feed-next {i = i} {from = from} a b = taken_next a (rw (lent-rest i from) at b)
 
 -- what it prints is handed on
-pub piece-settled : {k s w i k1 k2 t out out' : List ℕ} {u at to : ℕ} → TakenUpTo k s w i u k1 t (take at out) → HandedOn out at to → out' ≡ out → k2 ≡ k1
+pub piece-handed : {k s w i k1 k2 t out out' : List ℕ} {u at to : ℕ} → TakenUpTo k s w i u k1 t (take at out) → HandedOn out at to → out' ≡ out → k2 ≡ k1
     → TakenUpTo k s w i u k2 t (take to out')
-piece-settled {k} {s} {w} {i} {k1} {k2} {t} {out} {out'} {u} {at} {to} a h e f =
+piece-handed {k} {s} {w} {i} {k1} {k2} {t} {out} {out'} {u} {at} {to} a h e f =
     subst (λ (l : List ℕ). TakenUpTo k s w i u l t (take to out')) (sym f)
     (subst (λ (l : List ℕ). TakenUpTo k s w i u k1 t (take to l)) (sym e) (taken-handed a refl h))
+
+-- where nothing is left, it was handed on
+pub handed-so : {A E : Type 0} (r : Result A E) (out : List ℕ) (at to : ℕ) → IfOk r (λ (x : A). HandedOn out at to × (to ≡ 0)) → IfOk r (λ (x : A). HandedOn out at to)
+handed-so (Ok x) out at to h = h.0
+handed-so (Err x) out at to h = h
+
+-- or it could not be
+pub piece-settled : {A E : Type 0} (r : Result A E) {k s w i k1 k2 t out out' : List ℕ} (at to : ℕ) → TakenUpTo k s w i (length i) k1 t (take at out)
+    → IfOk r (λ (x : A). HandedOn out at to) → out' ≡ out → k2 ≡ k1 → Turned r k s w i k2 t (take to out')
+piece-settled (Ok x) at to a h e f = piece-handed a h e f
+piece-settled (Err x) at to a h e f = taken-ended a
 
 -- nothing of it was taken in, and it is broken off
 pub broken-before : (k s i : List ℕ) → Ended false k s i s
@@ -224,24 +236,7 @@ finished-handed out {at} {to} f h =
       output = append_assoc f.handed h.handed (take to out) ∙ ap (λ (l : List ℕ). f.handed ++ l) h.same ∙ f.output;
     }
 
-closing : {A E : Type 0} {k s w t out out' : List ℕ} (at to : ℕ) (r : Result A E) → Finished k s w t (take at out)
-    → IfOk r (λ (x : A). HandedOn out at to × (to ≡ 0)) → out' ≡ out → Closed r k s w t (take to out')
-closing {k = k} {s = s} {w = w} {t = t} {out = out} {out' = out'} at to (Ok x) f h e = (
-  subst (λ (l : List ℕ). Finished k s w t (take to l)) (sym e) (finished-handed out f h.0),
-  ap (λ (n : ℕ). take n out') h.1,
-)
-closing at to (Err x) f h e = finished-ended f false
-
--- the last line carried out into the output from a place on, and all of it handed on
-pub close-room : {A E : Type 0} (r : Result A E) {out out1 out2 k k1 s o t y : List ℕ} {at start w : ℕ} (to m : ℕ) → HandedOn out at start → start ≤ length out → out1 ≡ out → k1 ≡ k
-    → Carried (last k1) s o w t y → IfOk r (λ (x : A). HandedOn (put_mid start m out1 y) (start + w) to × (to ≡ 0)) → out2 ≡ put_mid start m out1 y
-    → Closed r k s (take at out) t (take to out2)
-close-room {A} r {s = s} {o = o} {t = t} {y = y} {start = start} {w = w} to m h within e f c i q =
-    closing (start + w) to r (last-finished h within m (subst (λ (l : List ℕ). Carried (last l) s o w t y) f c))
-    (subst (λ (l : List ℕ). IfOk r (λ (x : A). HandedOn (put_mid start m l y) (start + w) to × (to ≡ 0))) e i)
-    (q ∙ ap (λ (l : List ℕ). put_mid start m l y) e)
-
--- the same where what is handed on is known by its length, whatever came of it
+-- the last line carried out into the output from a place on, and all of it handed on, or it could not be
 pub close-all : {out : List ℕ} {at start : ℕ} → HandedOn out at start → start ≤ length out → (m : ℕ) (k : List ℕ) {s o t : List ℕ} (y : List ℕ) {w : ℕ} → Carried (last k) s o w t y
     → {n : ℕ} → n ≡ length (take (start + w - 0) (put_mid start m out y)) → {A E : Type 0} (r : Result A E)
     → Closed r k s (take at out) t (take (start + w - n) (put_mid start m out y))
@@ -254,17 +249,21 @@ close-all {out} {at} {start} h within m k y {w} c e (Ok x) =
     )
 close-all h within m k y c e (Err x) = finished-ended (last-finished h within m c) false
 
+-- the same where room was made before, and what is left is known
+pub close-room : {A E : Type 0} (r : Result A E) {out k k1 s o t y : List ℕ} (out1 out2 : List ℕ) {at start w : ℕ} (to m : ℕ) → HandedOn out at start → start ≤ length out → k1 ≡ k
+    → Carried (last k1) s o w t y → IfOk r (λ (x : A). HandedOn (put_mid start m out1 y) (start + w) to × (to ≡ 0)) → Closed r k s (take at out) t (take to out2)
+close-room {E = E} (Ok x) {out} {k = k} {s = s} {o = o} {t = t} {y = y} out1 out2 {at} {w = w} to m h within f c i =
+    let d = close-all h within m k y (subst (λ (l : List ℕ). Carried (last l) s o w t y) f c) refl {E = E} (Ok x) in
+    subst (λ (l : List ℕ). Closed {E = E} (Ok x) k s (take at out) t l) (d.1 ∙ sym (ap (λ (n : ℕ). take n out2) i.1)) d
+close-room {A} (Err x) {k = k} {s = s} {o = o} {t = t} {y = y} out1 out2 {w = w} to m h within f c i =
+    close-all h within m k y (subst (λ (l : List ℕ). Carried (last l) s o w t y) f c) refl {A = A} (Err x)
+
 -- ---- a result that is an error
 
 -- where there was no room nothing was done
 pub closed-refused : {A E : Type 0} (k s w w' : List ℕ) (r : Result A E) → is_err r ≡ true → Closed r k s w s w'
 closed-refused k s w w' (Ok x) h = neither h refl
 closed-refused k s w w' (Err e) h = broken-before k s []
-
--- what a piece printed could not be handed on
-pub turned-broken : {A E : Type 0} (k s w i k' t w' : List ℕ) (r : Result A E) → is_err r ≡ true → Ended false k s i t → Turned r k s w i k' t w'
-turned-broken k s w i k' t w' (Ok x) h e = neither h refl
-turned-broken k s w i k' t w' (Err x) h e = e
 
 pub ran-broken : {A E : Type 0} {s t : List ℕ} (r : Result A E) → is_err r ≡ true → Ran false s t → Ran (is_ok r) s t
 ran-broken (Ok x) h q = neither h refl
@@ -281,6 +280,17 @@ closed-broken w w' (Ok x) c = finished-ended c.0 false
 closed-broken w w' (Err e) c = c
 
 -- ---- turns
+
+-- bytes came, and were taken in
+pub came-taken : (n : ℕ) {k s w : List ℕ} (b : List ℕ) {k' t w' : List ℕ} → (n ≡ 0 → ⊥) → Came {E = BrokenOff} (Ok n) k s w b k' t w'
+    → TakenUpTo k s w (take n b) (length (take n b)) k' t w'
+came-taken zero b h c = absurd (h refl)
+came-taken (suc n) b h c = c
+
+-- none came, and the input is ended
+pub came-closed : (n : ℕ) {k s t : List ℕ} (w b k' w' : List ℕ) → n ≡ 0 → Came {E = BrokenOff} (Ok n) k s w b k' t w' → Ended true k s [] t
+came-closed zero w b k' w' h c = closed-ended {A = ℕ} {E = BrokenOff} w w' (Ok 0) c
+came-closed (suc n) w b k' w' h c = absurd (omega arith)
 
 -- bytes behind the input
 taken-wider : {k s w i k1 t1 w1 : List ℕ} (j : List ℕ) → TakenUpTo k s w i (length i) k1 t1 w1 → TakenUpTo k s w (i ++ j) (length i) k1 t1 w1

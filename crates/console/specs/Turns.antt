@@ -1,6 +1,6 @@
 -- What is done with the bytes that came: the store, the bytes kept of a line begun, and the output that is not yet written. What the
 -- system read and wrote is not spoken of; that what leaves the buffer was handed on to be written is.
-use Rattle.std.specs.Prelude.{◌≡◌, Result, Ok, Err, Bool, true, false, cond, List, [], ◌++◌, ℕ, ◌≤◌, length, take}
+use Rattle.std.specs.Prelude.{◌≡◌, Result, Ok, Err, Bool, true, false, cond, List, [], ◌++◌, ℕ, zero, suc, ◌≤◌, length, take}
 use Rattle.model.specs.Lists.{gather}
 use Rattle.carry.specs.Lines.{Printed}
 use Rattle.batch.specs.Pieces.{ended, begun, last, span, kept}
@@ -51,6 +51,13 @@ Closed (Err e) k s w t w' = Ended false k s [] t
 abbrev pub Turned : {A E : Type 0} → Result A E → (k s w i k' t w' : List ℕ) → Type 0
 Turned (Ok x) k s w i k' t w' = TakenUpTo k s w i (length i) k' t w'
 Turned (Err e) k s w i k' t w' = Ended false k s i t
+
+-- a turn: what came, the first bytes of what the read left in the buffer b, was taken in, or, where none came, the end of the input was
+-- carried out and handed on; or it was ended
+abbrev pub Came : {E : Type 0} → Result ℕ E → (k s w b k' t w' : List ℕ) → Type 0
+Came (Ok zero) k s w b k' t w' = Finished k s w t w' × (w' ≡ [])
+Came (Ok (suc n)) k s w b k' t w' = TakenUpTo k s w (take (suc n) b) (length (take (suc n) b)) k' t w'
+Came (Err e) k s w b k' t w' = (came : ℕ) × Ended false k s (take came b) t
 
 -- a run: there are pieces of input, one a turn, of whose lines the first, all if `whole`, lead from the store s to the store t
 pub record Ran (whole : Bool) (s t : List ℕ) : Type 0 where

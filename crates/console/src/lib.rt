@@ -6,7 +6,7 @@ pub mod failing;
 mod space;
 
 ghost use Rattle.std.specs.Prelude.{◌≡◌, ◌+◌, ◌≤◌, length, is_ok, IfOk};
-ghost use Rattle.console.specs.Turns.{HandedOn, Stepped, Closed, Turned, Ran};
+ghost use Rattle.console.specs.Turns.{HandedOn, Stepped, Closed, Turned, Came, Ran};
 ghost use Rattle.console.specs.Room.{kept_in, left_in};
 
 use batch::Line;
@@ -66,7 +66,7 @@ impl Room {
         self.make_room(writer)?;
         let start = self.at;
         let out = &mut self.out[start..];
-        let taken = batch::take_in(store, &mut self.line, input, &mut self.path, out);
+        let taken = self.line.take_in(store, input, &mut self.path, out);
         self.at = start + taken.wrote;
         Ok(taken.used)
     }
@@ -99,7 +99,7 @@ impl Room {
     {
         self.feed(writer, store, input)?;
         if input.len() < 65536 {
-            self.empty(writer)?;
+            return self.empty(writer);
         }
         Ok(())
     }
@@ -115,6 +115,33 @@ impl Room {
         let wrote = batch::finish(store, line.text(), &mut self.path, out);
         self.at = start + wrote;
         self.empty(writer)
+    }
+
+    // Reads once and takes in what came; at the end of the input, and where the read fails, closes. Yields how many bytes came, none at the
+    // end of the input.
+    fn turn<R: Read, W: Write>(
+        &mut self,
+        reader: &mut R,
+        writer: &mut W,
+        store: &mut [u8],
+        input: &mut [u8],
+    ) -> Result<usize, BrokenOff>
+        ensures { Came result (kept_in self.old) store.old (left_in self.old) input.new (kept_in self.new) store.new (left_in self.new) }
+    {
+        match reader.read(input) {
+            Ok(0) => {
+                self.close(writer, store)?;
+                Ok(0)
+            }
+            Ok(n) => {
+                self.take_piece(writer, store, &input[..n])?;
+                Ok(n)
+            }
+            Err(_) => {
+                let _ = self.close(writer, store);
+                Err(BrokenOff)
+            }
+        }
     }
 }
 
@@ -136,13 +163,8 @@ pub fn run<R: Read, W: Write>(
         at: 0,
     };
     for _turn in 0..u64::MAX {
-        match reader.read(&mut input) {
-            Ok(0) => return room.close(writer, store),
-            Ok(n) => room.take_piece(writer, store, &input[..n])?,
-            Err(_) => {
-                let _ = room.close(writer, store);
-                return Err(BrokenOff);
-            }
+        if room.turn(reader, writer, store, &mut input)? == 0 {
+            return Ok(());
         }
     }
     Err(BrokenOff)

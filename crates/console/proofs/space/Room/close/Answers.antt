@@ -14,5 +14,5 @@ returns g c =
     let room = c.in_ok-make_room.ensures in
     let size : length c.args.self.now.out ≡ 65536 = search rules in
     let within : c.make_room.new.self.at ≤ length c.args.self.now.out = omega (arith, room.handed.1) in
-    close-room c.empty.result c.empty.new.self.at (65536 - c.make_room.new.self.at) room.handed.0 within room.rest.1
-    (c.text.ensures ∙ ap (λ (l : Line). take l.kept l.bytes) room.rest.0) c.finish-wrote.ensures c.empty.ensures.handed c.empty.ensures.rest.1
+    close-room c.empty.result c.make_room.new.self.out c.empty.new.self.out c.empty.new.self.at (65536 - c.make_room.new.self.at) room.handed.0 within
+    (c.text.ensures ∙ ap (λ (l : Line). take l.kept l.bytes) room.rest.0) c.finish-wrote.ensures c.empty.ensures.handed
