@@ -211,11 +211,17 @@ pub handed-so : {A E : Type 0} (r : Result A E) (out : List ℕ) (at to : ℕ) �
 handed-so (Ok x) out at to h = h.0
 handed-so (Err x) out at to h = h
 
--- or it could not be
+-- what a piece printed could not be handed on
+pub turned-broken : {A E : Type 0} (k s w i k' t w' : List ℕ) (r : Result A E) → is_err r ≡ true → Ended false k s i t → Turned r k s w i k' t w'
+turned-broken k s w i k' t w' (Ok x) h e = neither h refl
+turned-broken k s w i k' t w' (Err x) h e = e
+
+-- it was handed on, or it could not be
 pub piece-settled : {A E : Type 0} (r : Result A E) {k s w i k1 k2 t out out' : List ℕ} (at to : ℕ) → TakenUpTo k s w i (length i) k1 t (take at out)
     → IfOk r (λ (x : A). HandedOn out at to) → out' ≡ out → k2 ≡ k1 → Turned r k s w i k2 t (take to out')
 piece-settled (Ok x) at to a h e f = piece-handed a h e f
-piece-settled (Err x) at to a h e f = taken-ended a
+piece-settled {A} {E} (Err x) {k} {s} {w} {i} {k2 = k2} {t = t} {out' = out'} at to a h e f =
+    turned-broken {A = A} {E = E} k s w i k2 t (take to out') (Err x) refl (taken-ended a)
 
 -- nothing of it was taken in, and it is broken off
 pub broken-before : (k s i : List ℕ) → Ended false k s i s

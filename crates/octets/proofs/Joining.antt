@@ -1,6 +1,6 @@
 -- Bytes joined to one number: when it is 0, the number of eight bytes, and a zero test that takes eight bytes a step.
 use mathlib.Core.Path.{◌≡◌, refl, sym, ap, ap₂, ◌∙◌}
-use mathlib.Core.Bool.{Bool, ◌&&◌}
+use mathlib.Core.Bool.{Bool, ◌&&◌, and-true, and_assoc}
 use mathlib.Core.List.{List, [], ◌∷◌, ◌++◌}
 use Prim.Native.Nat.{ℕ, zero, suc, ◌+◌, ◌-◌, ◌*◌, ◌%◌, ◌≤◌, ◌<◌}
 use native.Mathlib.Omega.{arith}
@@ -9,10 +9,11 @@ use lib.Seq.{take_at, drop_at, drop-drop}
 use lib.Bits.{bit_or, or_zero_r}
 use lib.Dec.{T, eqb}
 use mir.Facts.{eqb_yes, yes_eqb}
+use Rattle.std.proofs.lemmas.List.{nil_from_length}
 use Rattle.model.specs.Lists.{range, all_zero, between}
 use Rattle.model.specs.Slot.{slot_size}
 use Rattle.model.proofs.Bools.{and_l, and_r, both, same_test, decide}
-use Rattle.model.proofs.Lists.{between_none, between_cons}
+use Rattle.model.proofs.Lists.{all_both, between_none, between_cons}
 use Rattle.octets.specs.Joined.{number_of}
 use Rattle.octets.proofs.Tests.{Tested, test-start, test-part, test-end, or-is-zero}
 
@@ -92,8 +93,44 @@ module _ {s : List ℕ} {used at : ℕ} (inv : ZeroTo s used at) where
 
 -- ---- the same test, by what is left
 
--- what is left of whole slots stands from the place on that the test has come to
+-- what is left is whole eights, and all bytes are 0 exactly when the number and what is left are
 pub record ZeroLeft (s : List ℕ) (used size : ℕ) (left : List ℕ) : Type 0 where
+  pub by : size ≡ 8
+  pub whole : length left % 8 ≡ 0
+  pub same : all_zero s ≡ (eqb used 0 && all_zero left)
+
+-- so it is before the first step
+pub left-start : (s : List ℕ) {size : ℕ} {left : List ℕ} → length s % slot_size ≡ 0 → size ≡ 8 → left ≡ s → ZeroLeft s 0 size left
+left-start s h e l = record { by = e; whole = rw l (omega arith); same = ap all_zero (sym l) }
+
+module _ {s : List ℕ} {used size : ℕ} {left : List ℕ} (inv : ZeroLeft s used size left) where
+  -- a step: the next eight bytes are joined and or-ed in
+  pub left-more : {joined size' : ℕ} (eight left' : List ℕ) → size' ≡ size → left ≡ eight ++ left' → length eight ≡ size → joined ≡ number_of eight
+      → ZeroLeft s (bit_or used joined) size' left'
+  left-more {joined} eight left' e l n j =
+      let k : length left ≡ length eight + length left' = ap length l ∙ length-append eight left' in
+      let part : eqb joined 0 ≡ all_zero eight = ap (λ (m : ℕ). eqb m 0) j ∙ number-zero eight in
+      let more : all_zero left ≡ (eqb joined 0 && all_zero left') =
+      ap all_zero l ∙ all_both (λ x. eqb x 0) eight left' ∙ ap (λ (t : Bool). t && all_zero left') (sym part) in
+      record {
+        by = e ∙ inv.by;
+        whole = omega (arith, k, n, inv.by, inv.whole);
+        same =
+            inv.same ∙ ap (λ (t : Bool). eqb used 0 && t) more
+            ∙ sym (and_assoc (eqb used 0) (eqb joined 0) (all_zero left'))
+            ∙ ap (λ (t : Bool). t && all_zero left') (sym (or-is-zero used joined));
+      }
+
+  -- after the last step nothing is left
+  pub left-end : length left < size → eqb used 0 ≡ all_zero s
+  left-end h =
+      let k : left ≡ [] = nil_from_length left (omega (arith, inv.by, inv.whole)) in
+      sym (inv.same ∙ ap (λ (l : List ℕ). eqb used 0 && all_zero l) k ∙ and-true (eqb used 0))
+
+-- ---- what is left, and the place it stands from
+
+-- what is left of whole slots stands from the place on that the test has come to
+pub record ZeroReached (s : List ℕ) (used size : ℕ) (left : List ℕ) : Type 0 where
   pub by : size ≡ 8
   pub whole : length s % slot_size ≡ 0
   pub at : ℕ
@@ -101,14 +138,24 @@ pub record ZeroLeft (s : List ℕ) (used size : ℕ) (left : List ℕ) : Type 0 
   pub is : left ≡ drop at s
 
 -- so it is before the first step
-pub left-start : (s : List ℕ) {size : ℕ} {left : List ℕ} → length s % slot_size ≡ 0 → size ≡ 8 → left ≡ s → ZeroLeft s 0 size left
-left-start s h e l = record { by = e; whole = h; at = 0; to = zero-start s; is = l }
+pub reached-start : (s : List ℕ) {size : ℕ} {left : List ℕ} → length s % slot_size ≡ 0 → size ≡ 8 → left ≡ s → ZeroReached s 0 size left
+reached-start s h e l = record { by = e; whole = h; at = 0; to = zero-start s; is = l }
 
-module _ {s : List ℕ} {used size : ℕ} {left : List ℕ} (inv : ZeroLeft s used size left) where
+module _ {s : List ℕ} {used size : ℕ} {left : List ℕ} (inv : ZeroReached s used size left) where
+  -- what is left is whole eights, and tells with the number whether all bytes are 0
+  pub reached-left : ZeroLeft s used size left
+  reached-left =
+      let k : length left ≡ length s - inv.at = ap length inv.is ∙ length-drop inv.at s in
+      record {
+        by = inv.by;
+        whole = omega (arith, k, inv.whole, inv.to.whole, inv.to.tested.within);
+        same = inv.to.tested.same ∙ ap (λ (l : List ℕ). eqb used 0 && all_zero l) (sym inv.is);
+      }
+
   -- a step: the next eight bytes are joined and or-ed in; where they are 0, the number stays
-  pub left-more : {joined size' : ℕ} (eight left' : List ℕ) → size' ≡ size → left ≡ eight ++ left' → length eight ≡ size → joined ≡ number_of eight
-      → ZeroLeft s (bit_or used joined) size' left'
-  left-more {joined} eight left' e l n j =
+  pub reached-more : {joined size' : ℕ} (eight left' : List ℕ) → size' ≡ size → left ≡ eight ++ left' → length eight ≡ size → joined ≡ number_of eight
+      → ZeroReached s (bit_or used joined) size' left'
+  reached-more {joined} eight left' e l n j =
       let here : drop inv.at s ≡ eight ++ left' = sym inv.is ∙ l in
       let size-of : length eight ≡ 8 = n ∙ inv.by in
       let m : inv.at + 8 - inv.at ≡ 8 = omega arith in
@@ -128,7 +175,7 @@ module _ {s : List ℕ} {used size : ℕ} {left : List ℕ} (inv : ZeroLeft s us
       }
 
   -- after the last step nothing is left
-  pub left-end : length left < size → eqb used 0 ≡ all_zero s
-  left-end h =
+  pub reached-end : length left < size → eqb used 0 ≡ all_zero s
+  reached-end h =
       let k : length left ≡ length s - inv.at = ap length inv.is ∙ length-drop inv.at s in
       zero-end inv.to inv.whole (omega (arith, k, inv.by))

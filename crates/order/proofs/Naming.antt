@@ -86,8 +86,12 @@ module _ {s : ℕ} {b xs ys : List ℕ} (u : Runs s b xs ys) where
 
 -- ---- the references behind the first n are not used
 
+-- of at most 32 labels with 32 elements each
+pub first-few : {n k : ℕ} (rs : List ℕ) → n ≤ 32 * k → k ≤ 32 → length (take n rs) ≤ 1024
+first-few {n} rs h g =
+    let l : length (take n rs) ≡ min n (length rs) = length-take n rs in
+    omega arith
+
 pub first-refs : {s : ℕ} {b : List ℕ} {es : List Element} (n : ℕ) (rs : List ℕ) → n ≤ 1024 → Refers s b (take n rs) es
     → (length (take n rs) ≤ 1024) × Refers s b (take n rs) es
-first-refs n rs h r =
-    let l : length (take n rs) ≡ min n (length rs) = length-take n rs in
-    (omega arith, r)
+first-refs n rs h r = (first-few {k = 32} rs h (omega arith), r)
